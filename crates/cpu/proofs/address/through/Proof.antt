@@ -1,0 +1,28 @@
+use Rattle.cpu.specs.Address.{throughOf}
+use Rattle.cpu.specs.Choice.{if_then_else_}
+use borrow.Author.Needs.{needs}
+use borrow.Author.Tests.{eq-eqb, ne-eqb}
+use Rattle.cpu.proofs.address.through.Statement.{statement}
+use Rattle.cpu.proofs.address.through.Tie as tie
+
+-- src/address.rt:68:9
+pointer-requires : tie.Need-pointer-requires
+pointer-requires c κs = search needs
+
+-- src/address.rt:62:1
+returns : tie.Need-returns
+unfolding throughOf if_then_else_
+returns c =
+    rw (eq-eqb _ _ (c .if1 .taken))
+
+-- src/address.rt:62:1
+returns-2 : tie.Need-returns-2
+unfolding throughOf if_then_else_
+returns-2 c =
+    rw (
+      ne-eqb _ _ (c .before .if1 .left),
+      ← c .pointer .ensures,
+    )
+
+pub through-spec : {M : Type 1} → statement M
+through-spec = tie.close (tie.spec pointer-requires returns returns-2)

@@ -1,0 +1,111 @@
+use Rattle.cpu.specs.Core.{bytesOf, cpuOf, quartersOf}
+use Rattle.cpu.specs.State.{counterOf, pslOf, psuOf}
+use borrow.Author.Needs.{needs}
+use Rattle.cpu.proofs.core.unpack.Statement.{statement}
+use Rattle.cpu.proofs.core.unpack.Tie as tie
+
+-- src/core.rt:228:9
+ordered-requires : tie.Need-ordered-requires
+ordered-requires c κs = search needs
+
+-- src/core.rt:231:9
+counter-requires : tie.Need-counter-requires
+counter-requires c κs = search needs
+
+-- src/core.rt:232:22
+byte-at-requires : tie.Need-byte-at-requires
+byte-at-requires c κs = search needs
+
+-- src/core.rt:232:37
+byte-at-requires-2 : tie.Need-byte-at-requires-2
+byte-at-requires-2 c κs = search needs
+
+-- src/core.rt:232:52
+byte-at-requires-3 : tie.Need-byte-at-requires-3
+byte-at-requires-3 c κs = search needs
+
+-- src/core.rt:232:67
+byte-at-requires-4 : tie.Need-byte-at-requires-4
+byte-at-requires-4 c κs = search needs
+
+-- src/core.rt:232:82
+byte-at-requires-5 : tie.Need-byte-at-requires-5
+byte-at-requires-5 c κs = search needs
+
+-- src/core.rt:232:97
+byte-at-requires-6 : tie.Need-byte-at-requires-6
+byte-at-requires-6 c κs = search needs
+
+-- src/core.rt:232:112
+byte-at-requires-7 : tie.Need-byte-at-requires-7
+byte-at-requires-7 c κs = search needs
+
+-- src/core.rt:233:20
+quarter-at-requires : tie.Need-quarter-at-requires
+quarter-at-requires c κs = search needs
+
+-- src/core.rt:233:38
+quarter-at-requires-2 : tie.Need-quarter-at-requires-2
+quarter-at-requires-2 c κs = search needs
+
+-- src/core.rt:233:56
+quarter-at-requires-3 : tie.Need-quarter-at-requires-3
+quarter-at-requires-3 c κs = search needs
+
+-- src/core.rt:233:74
+quarter-at-requires-4 : tie.Need-quarter-at-requires-4
+quarter-at-requires-4 c κs = search needs
+
+-- src/core.rt:233:92
+quarter-at-requires-5 : tie.Need-quarter-at-requires-5
+quarter-at-requires-5 c κs = search needs
+
+-- src/core.rt:233:110
+quarter-at-requires-6 : tie.Need-quarter-at-requires-6
+quarter-at-requires-6 c κs = search needs
+
+-- src/core.rt:233:128
+quarter-at-requires-7 : tie.Need-quarter-at-requires-7
+quarter-at-requires-7 c κs = search needs
+
+-- src/core.rt:233:146
+quarter-at-requires-8 : tie.Need-quarter-at-requires-8
+quarter-at-requires-8 c κs = search needs
+
+-- src/core.rt:237:14
+psu-requires : tie.Need-psu-requires
+psu-requires c κs = search needs
+
+-- src/core.rt:238:14
+psl-requires : tie.Need-psl-requires
+psl-requires c κs = search needs
+
+-- src/core.rt:225:1
+returns : tie.Need-returns
+unfolding cpuOf bytesOf quartersOf pslOf psuOf counterOf
+returns c = rw (c .psl .ensures, c .before .psu .ensures, c .before .before .quarter-at8 .ensures, c .before .before .before .quarter-at7 .ensures, c .before .before .before .before .quarter-at6 .ensures, c .before .before .before .before .before .quarter-at5 .ensures, c .before .before .before .before .before .before .quarter-at4 .ensures, c .before .before .before .before .before .before .before .quarter-at3 .ensures, c .before .before .before .before .before .before .before .before .quarter-at2 .ensures, c .before .before .before .before .before .before .before .before .before .quarter-at .ensures, c .before .before .before .before .before .before .before .before .before .before .byte-at7 .ensures, c .before .before .before .before .before .before .before .before .before .before .before .byte-at6 .ensures, c .before .before .before .before .before .before .before .before .before .before .before .before .byte-at5 .ensures, c .before .before .before .before .before .before .before .before .before .before .before .before .before .byte-at4 .ensures, c .before .before .before .before .before .before .before .before .before .before .before .before .before .before .byte-at3 .ensures, c .before .before .before .before .before .before .before .before .before .before .before .before .before .before .before .byte-at2 .ensures, c .before .before .before .before .before .before .before .before .before .before .before .before .before .before .before .before .byte-at .ensures, c .before .before .before .before .before .before .before .before .before .before .before .before .before .before .before .before .before .counter .ensures, c .before .before .before .before .before .before .before .before .before .before .before .before .before .before .before .before .before .before .ordered .ensures)
+
+pub unpack-spec : {M : Type 1} → statement M
+unpack-spec =
+    tie.close
+    (tie.spec
+    ordered-requires
+    counter-requires
+    byte-at-requires
+    byte-at-requires-2
+    byte-at-requires-3
+    byte-at-requires-4
+    byte-at-requires-5
+    byte-at-requires-6
+    byte-at-requires-7
+    quarter-at-requires
+    quarter-at-requires-2
+    quarter-at-requires-3
+    quarter-at-requires-4
+    quarter-at-requires-5
+    quarter-at-requires-6
+    quarter-at-requires-7
+    quarter-at-requires-8
+    psu-requires
+    psl-requires
+    returns)

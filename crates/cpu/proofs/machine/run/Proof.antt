@@ -1,0 +1,152 @@
+use Prim.Native.Nat.{_+_, _-_, _<_, _≤_, ℕ}
+use Rattle.cpu.proofs.Parting.{once, parts-inside, positions-law, status-at, view-law}
+use Rattle.cpu.specs.Core.{cpuOf}
+use Rattle.cpu.specs.Machine.{Machine, machineOf, machineStep, times}
+use Rattle.cpu.specs.Partition.{Parts, machineAt, settled}
+use Rattle.cpu.specs.Times.{times-add, times-rests, times-suc}
+use borrow.Author.Needs.{needs}
+use lib.ListN.{length}
+use mathlib.Core.Logic.{⊎-elim}
+use mathlib.Core.Path.{_∙_, _≡_, ap, refl, subst, sym}
+use native.Mathlib.Omega.{arith}
+use Rattle.cpu.specs.declared.machine.State.{State}
+use Rattle.cpu.specs.declared.partition.Positions.{Positions}
+use Rattle.cpu.specs.declared.state.Cpu.{Cpu}
+use Rattle.cpu.proofs.machine.run.Statement.{statement}
+use Rattle.cpu.proofs.machine.run.Tie as tie
+
+abbrev Inv-loop : tie.InvT-loop
+Inv-loop state partition₀ steps b core₀ status₀ k₀ i₀ partition core status k i = (i ≤ steps) × (length partition ≡ length partition₀) × (k .read < 65536) × (k .written < 65536) × (machineAt b (cpuOf core) status k partition ≡ times i machineStep (machineAt b (cpuOf core₀) status₀ k₀ partition₀))
+
+abbrev μ-loop : tie.MeasureT-loop
+μ-loop state partition₀ steps b core₀ status₀ k₀ i₀ partition core status k i = steps - i
+
+-- src/machine.rt:29:9
+parted-requires : tie.Need-parted-requires Inv-loop μ-loop
+parted-requires c κs = search needs
+
+-- src/machine.rt:30:9
+pack-requires : tie.Need-pack-requires Inv-loop μ-loop
+pack-requires c κs = search needs
+
+-- src/machine.rt:33:15
+cast-t15 : tie.Need-cast-t15 Inv-loop μ-loop
+cast-t15 c = search needs
+
+-- src/machine.rt:34:18
+cast-t16 : tie.Need-cast-t16 Inv-loop μ-loop
+cast-t16 c = search needs
+
+-- src/machine.rt:37:5
+loop-holds : tie.Need-loop-holds Inv-loop μ-loop
+unfolding times
+loop-holds c = (omega arith, refl, search needs, search needs, refl)
+
+-- src/machine.rt:41:13
+advance-requires : tie.Need-advance-requires Inv-loop μ-loop
+advance-requires c κs = let here = c .before .before .before .loop in
+    let start = c .before .before .before .before .before .before .before .parted in
+    let q : Parts (start .result) (length (here .partition)) = subst (λ (n : ℕ). Parts (start .result) n) (sym (here .inv .1)) (start .ensures .1) in
+    let x = parts-inside _ _ q in
+    (x .first, (x .second, (x .input, (x .output, (here .inv .2, here .inv .3)))))
+
+-- src/machine.rt:46:13
+settle-requires : tie.Need-settle-requires Inv-loop μ-loop
+settle-requires c κs = let here = c .before .before .before .before .before .before .loop in
+    let start = c .before .before .before .before .before .before .before .before .before .before .parted in
+    let q : Parts (start .result) (length (here .partition)) = subst (λ (n : ℕ). Parts (start .result) n) (sym (here .inv .1)) (start .ensures .1) in
+    let x = parts-inside _ _ q in
+    (x .first, (x .third, (x .output, (here .inv .2, here .inv .3))))
+
+-- src/machine.rt:48:9
+add-i : tie.Need-add-i Inv-loop μ-loop
+add-i c = record { fits = omega (arith, c .before .before .before .before .before .before .before .before .before .before .before .before .before .before .before .fits .steps .fits) }
+
+-- src/machine.rt:37:5
+loop-less : tie.Need-loop-less Inv-loop μ-loop
+loop-less c = omega arith
+
+-- src/machine.rt:37:5
+loop-again : tie.Need-loop-again Inv-loop μ-loop
+loop-again c = let here = c .before .before .before .before .before .before .before .before .before .loop in
+    let start = c .before .before .before .before .before .before .before .before .before .before .before .before .before .parted in
+    let q : Parts (start .result) (length (here .partition)) = subst (λ (n : ℕ). Parts (start .result) n) (sym (here .inv .1)) (start .ensures .1) in
+    let went = c .before .before .before .before .before .advance in
+    let put = c .before .before .settle in
+    let low = positions-law (went .result .effect) (start .result) (here .k) (here .partition) _ q (here .inv .2) (here .inv .3) (settled (put .result) _) (put .ensures) in
+    let test : here .i < c .before .before .before .before .before .before .before .before .before .before .before .before .before .before .before .args .steps = c .before .before .before .before .before .before .before .before .loop-test .taken in
+    let next : here .i + 1 ≤ c .before .before .before .before .before .before .before .before .before .before .before .before .before .before .before .args .steps = omega arith in (
+      next,
+      put .kept .0 ∙ here .inv .1,
+      low .0,
+      low .1,
+      once (start .result) (here .core) (here .status) (here .k) (here .partition) q (c .before .before .before .before .before .before .before .if1 .left) (went .result) (went .ensures) (put .result) _ (put .ensures)
+          ∙ ap machineStep (here .inv .4)
+          ∙ sym (times-suc (here .i) _),
+    )
+
+-- src/machine.rt:50:9
+unpack-requires : tie.Need-unpack-requires Inv-loop μ-loop
+unpack-requires c κs = search needs
+
+-- src/machine.rt:55:15
+cast-t22 : tie.Need-cast-t22 Inv-loop μ-loop
+cast-t22 c = record { fits = c .before .before .before .loop .inv .2 }
+
+-- src/machine.rt:56:18
+cast-t23 : tie.Need-cast-t23 Inv-loop μ-loop
+cast-t23 c = record { fits = c .before .before .before .before .loop .inv .3 }
+
+-- src/machine.rt:26:1
+same-length : tie.Need-same-length Inv-loop μ-loop
+same-length c = c .before .before .before .before .loop .inv .1
+
+-- src/machine.rt:26:1
+returns : tie.Need-returns Inv-loop μ-loop
+returns c = let here = c .before .before .before .before .loop in
+    let args = c .before .before .before .before .before .before .before .before .before .before .args in
+    let start = c .before .before .before .before .before .before .before .before .parted in
+    let k₀ : Positions = record { read = args .state .read; written = args .state .written } in
+    let before = machineAt (start .result) (cpuOf (c .before .before .before .before .before .before .before .pack .result)) (args .state .status) k₀ (args .partition .now) in
+    let after = machineAt (start .result) (cpuOf (here .core)) (here .status) (here .k) (here .partition) in
+    let most : here .i ≤ args .steps = here .inv .0 in
+    let done : after ≡ times (args .steps) machineStep before =
+    ⊎-elim
+    (λ w. let test : args .steps ≤ here .i = w .left in let h : here .i ≡ args .steps = omega arith in here .inv .4 ∙ ap (λ (n : ℕ). times n machineStep before) h)
+    (λ w.
+    let h : (args .steps - here .i) + here .i ≡ args .steps = omega arith in
+    here .inv .4
+    ∙ sym (times-rests (args .steps - here .i) _ (λ e. w .1 .taken (sym (status-at _ _ _ _ _) ∙ ap (λ (m : Machine). m .status) (here .inv .4) ∙ e)))
+    ∙ sym (times-add (args .steps - here .i) (here .i) before)
+    ∙ ap (λ (n : ℕ). times n machineStep before) h)
+    (c .before .before .before .loop-test .came) in
+    let first : before ≡ machineOf (args .sizes) (args .state) (args .partition .now) =
+    ap (λ (n : Cpu). machineAt (start .result) n (args .state .status) k₀ (args .partition .now)) (c .before .before .before .before .before .before .before .pack .ensures)
+    ∙ view-law (args .sizes) (args .state) (start .result) _ k₀ (args .partition .now) (start .ensures .0) refl refl in
+    let s : State = record { cpu = c .before .before .unpack .result; status = here .status; filled = args .state .filled; read = here .k .read; written = here .k .written } in
+    let last : machineOf (args .sizes) s (here .partition) ≡ after =
+    sym (view-law (args .sizes) s (start .result) _ (here .k) (here .partition) (start .ensures .0) refl refl)
+    ∙ ap (λ (n : Cpu). machineAt (start .result) n (here .status) (here .k) (here .partition)) (c .before .before .unpack .ensures) in
+    last ∙ done ∙ ap (times (args .steps) machineStep) first
+
+pub run-spec : {M : Type 1} → statement M
+run-spec =
+    tie.close
+    (tie.spec
+    Inv-loop
+    μ-loop
+    parted-requires
+    pack-requires
+    cast-t15
+    cast-t16
+    loop-holds
+    advance-requires
+    settle-requires
+    add-i
+    loop-less
+    loop-again
+    unpack-requires
+    cast-t22
+    cast-t23
+    same-length
+    returns)

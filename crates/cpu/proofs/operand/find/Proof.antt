@@ -1,0 +1,89 @@
+use Rattle.cpu.specs.Operand.{operandOf}
+use borrow.Author.Needs.{needs}
+use Rattle.cpu.proofs.operand.find.Statement.{statement}
+use Rattle.cpu.proofs.operand.find.Tie as tie
+
+-- src/operand.rt:149:27
+enum-told : tie.Need-enum-told
+enum-told c = search needs
+
+-- src/operand.rt:149:27
+register-operand-requires : tie.Need-register-operand-requires
+register-operand-requires c κs = search needs
+
+-- src/operand.rt:150:28
+enum-told-2 : tie.Need-enum-told-2
+enum-told-2 c = search needs
+
+-- src/operand.rt:150:28
+immediate-operand-requires : tie.Need-immediate-operand-requires
+immediate-operand-requires c κs = search needs
+
+-- src/operand.rt:151:27
+enum-told-3 : tie.Need-enum-told-3
+enum-told-3 c = search needs
+
+-- src/operand.rt:151:27
+relative-operand-requires : tie.Need-relative-operand-requires
+relative-operand-requires c κs = search needs
+
+-- src/operand.rt:152:27
+enum-told-4 : tie.Need-enum-told-4
+enum-told-4 c = search needs
+
+-- src/operand.rt:152:27
+absolute-operand-requires : tie.Need-absolute-operand-requires
+absolute-operand-requires c κs = search needs
+
+-- src/operand.rt:144:1
+returns : tie.Need-returns
+unfolding operandOf
+returns c =
+    rw (
+      c .before .enum-told .given .1,
+      ← c .register-operand .ensures,
+    )
+
+-- src/operand.rt:144:1
+returns-2 : tie.Need-returns-2
+unfolding operandOf
+returns-2 c =
+    rw (
+      c .before .enum-told2 .given .1,
+      ← c .immediate-operand .ensures,
+    )
+
+-- src/operand.rt:144:1
+returns-3 : tie.Need-returns-3
+unfolding operandOf
+returns-3 c =
+    rw (
+      c .before .enum-told3 .given .1,
+      ← c .relative-operand .ensures,
+    )
+
+-- src/operand.rt:144:1
+returns-4 : tie.Need-returns-4
+unfolding operandOf
+returns-4 c =
+    rw (
+      c .before .enum-told4 .given .1,
+      ← c .absolute-operand .ensures,
+    )
+
+pub find-spec : {M : Type 1} → statement M
+find-spec =
+    tie.close
+    (tie.spec
+    enum-told
+    register-operand-requires
+    enum-told-2
+    immediate-operand-requires
+    enum-told-3
+    relative-operand-requires
+    enum-told-4
+    absolute-operand-requires
+    returns
+    returns-2
+    returns-3
+    returns-4)

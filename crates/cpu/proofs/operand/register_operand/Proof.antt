@@ -1,0 +1,25 @@
+use Rattle.cpu.specs.Choice.{if_then_else_}
+use Rattle.cpu.specs.Operand.{dataRegisterOf, registerOperandOf}
+use borrow.Author.Needs.{needs}
+use Rattle.cpu.proofs.operand.register_operand.Statement.{statement}
+use Rattle.cpu.proofs.operand.register_operand.Tie as tie
+
+-- src/operand.rt:82:9
+register-requires : tie.Need-register-requires
+register-requires c κs = search needs
+
+-- src/operand.rt:83:9
+advanced-requires : tie.Need-advanced-requires
+advanced-requires c κs = search needs
+
+-- src/operand.rt:78:1
+returns : tie.Need-returns
+unfolding registerOperandOf dataRegisterOf if_then_else_
+returns c =
+    rw (
+      ← c .before .register .ensures,
+      ← c .advanced .ensures,
+    )
+
+pub register-operand-spec : {M : Type 1} → statement M
+register-operand-spec = tie.close (tie.spec register-requires advanced-requires returns)

@@ -1,0 +1,24 @@
+use Rattle.cpu.specs.Result.{advancedOf}
+use borrow.Author.Needs.{needs}
+use Rattle.cpu.proofs.result.advanced.Statement.{statement}
+use Rattle.cpu.proofs.result.advanced.Tie as tie
+
+-- src/result.rt:78:9
+after-requires : tie.Need-after-requires
+after-requires c κs = search needs
+
+-- src/result.rt:79:5
+with-counter-requires : tie.Need-with-counter-requires
+with-counter-requires c κs = search needs
+
+-- src/result.rt:74:1
+returns : tie.Need-returns
+unfolding advancedOf
+returns c =
+    rw (
+      ← c .before .after .ensures,
+      ← c .with-counter .ensures,
+    )
+
+pub advanced-spec : {M : Type 1} → statement M
+advanced-spec = tie.close (tie.spec after-requires with-counter-requires returns)

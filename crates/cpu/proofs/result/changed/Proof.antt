@@ -1,0 +1,29 @@
+use Rattle.cpu.specs.Result.{changedOf}
+use borrow.Author.Needs.{needs}
+use Rattle.cpu.proofs.result.changed.Statement.{statement}
+use Rattle.cpu.proofs.result.changed.Tie as tie
+
+-- src/result.rt:96:9
+applied-requires : tie.Need-applied-requires
+applied-requires c κs = search needs
+
+-- src/result.rt:97:9
+advanced-requires : tie.Need-advanced-requires
+advanced-requires c κs = search needs
+
+-- src/result.rt:98:5
+going-requires : tie.Need-going-requires
+going-requires c κs = search needs
+
+-- src/result.rt:91:1
+returns : tie.Need-returns
+unfolding changedOf
+returns c =
+    rw (
+      ← c .before .before .applied .ensures,
+      ← c .before .advanced .ensures,
+      ← c .going .ensures,
+    )
+
+pub changed-spec : {M : Type 1} → statement M
+changed-spec = tie.close (tie.spec applied-requires advanced-requires going-requires returns)

@@ -1,0 +1,12 @@
+use Rattle.cpu.specs.Core.{steppedOf}
+use mathlib.Core.Path.{refl}
+use Rattle.cpu.proofs.result.going.Statement.{statement}
+use Rattle.cpu.proofs.result.going.Tie as tie
+
+-- src/result.rt:46:1
+returns : tie.Need-returns
+unfolding steppedOf
+returns c = refl
+
+pub going-spec : {M : Type 1} → statement M
+going-spec = tie.close (tie.spec returns)

@@ -1,0 +1,12 @@
+use Rattle.cpu.specs.Core.{steppedOf}
+use mathlib.Core.Path.{refl}
+use Rattle.cpu.proofs.result.stopped.Statement.{statement}
+use Rattle.cpu.proofs.result.stopped.Tie as tie
+
+-- src/result.rt:56:1
+returns : tie.Need-returns
+unfolding steppedOf
+returns c = refl
+
+pub stopped-spec : {M : Type 1} → statement M
+stopped-spec = tie.close (tie.spec returns)

@@ -1,0 +1,92 @@
+use Rattle.cpu.specs.Address.{withByte}
+use Rattle.cpu.specs.Status.{maskedOf}
+use borrow.Author.Needs.{needs}
+use mathlib.Core.Path.{_∙_, sym}
+use Rattle.cpu.proofs.status.clear_psu.Statement.{statement}
+use Rattle.cpu.proofs.status.clear_psu.Tie as tie
+
+-- src/status.rt:31:9
+after-requires : tie.Need-after-requires
+after-requires c κs = search needs
+
+-- src/status.rt:32:31
+fetch-requires : tie.Need-fetch-requires
+fetch-requires c κs = search needs
+
+-- src/status.rt:32:23
+enum-known-mask : tie.Need-enum-known-mask
+enum-known-mask c = search needs
+
+-- src/status.rt:33:9
+enum-told : tie.Need-enum-told
+enum-told c = search needs
+
+-- src/status.rt:33:9
+stopped-requires : tie.Need-stopped-requires
+stopped-requires c κs = search needs
+
+-- src/status.rt:33:9
+returns : tie.Need-returns
+unfolding maskedOf withByte
+returns c =
+    rw (
+      ← c .before .before .before .before .after .ensures,
+      sym (c .before .before .before .fetch .ensures) ∙ c .before .enum-told .given .1,
+      ← c .stopped .ensures,
+    )
+
+-- src/status.rt:35:9
+psu-requires : tie.Need-psu-requires
+psu-requires c κs = search needs
+
+-- src/status.rt:36:25
+sub-stored : tie.Need-sub-stored
+sub-stored c = search needs
+
+-- src/status.rt:36:9
+stored-requires : tie.Need-stored-requires
+stored-requires c κs = search needs
+
+-- src/status.rt:37:9
+with-psu-requires : tie.Need-with-psu-requires
+with-psu-requires c κs = search needs
+
+-- src/status.rt:38:9
+advanced-requires : tie.Need-advanced-requires
+advanced-requires c κs = search needs
+
+-- src/status.rt:39:5
+going-requires : tie.Need-going-requires
+going-requires c κs = search needs
+
+-- src/status.rt:28:1
+returns-2 : tie.Need-returns-2
+unfolding maskedOf withByte
+returns-2 c =
+    rw (
+      ← c .before .before .before .before .before .before .before .before .before .after .ensures,
+      sym (c .before .before .before .before .before .before .before .before .fetch .ensures) ∙ c .before .before .before .before .before .before .mask .given .1,
+      ← c .before .before .before .before .psu .ensures,
+      ← c .before .before .before .stored .ensures,
+      ← c .before .before .with-psu .ensures,
+      ← c .before .advanced .ensures,
+      ← c .going .ensures,
+    )
+
+pub clear-psu-spec : {M : Type 1} → statement M
+clear-psu-spec =
+    tie.close
+    (tie.spec
+    after-requires
+    fetch-requires
+    enum-known-mask
+    enum-told
+    stopped-requires
+    returns
+    psu-requires
+    sub-stored
+    stored-requires
+    with-psu-requires
+    advanced-requires
+    going-requires
+    returns-2)

@@ -1,0 +1,81 @@
+use Rattle.cpu.specs.Address.{withByte}
+use Rattle.cpu.specs.Status.{maskedOf}
+use borrow.Author.Needs.{needs}
+use mathlib.Core.Path.{_∙_, sym}
+use Rattle.cpu.proofs.status.preset_psl.Statement.{statement}
+use Rattle.cpu.proofs.status.preset_psl.Tie as tie
+
+-- src/status.rt:72:9
+after-requires : tie.Need-after-requires
+after-requires c κs = search needs
+
+-- src/status.rt:73:31
+fetch-requires : tie.Need-fetch-requires
+fetch-requires c κs = search needs
+
+-- src/status.rt:73:23
+enum-known-mask : tie.Need-enum-known-mask
+enum-known-mask c = search needs
+
+-- src/status.rt:74:9
+enum-told : tie.Need-enum-told
+enum-told c = search needs
+
+-- src/status.rt:74:9
+stopped-requires : tie.Need-stopped-requires
+stopped-requires c κs = search needs
+
+-- src/status.rt:74:9
+returns : tie.Need-returns
+unfolding maskedOf withByte
+returns c =
+    rw (
+      ← c .before .before .before .before .after .ensures,
+      sym (c .before .before .before .fetch .ensures) ∙ c .before .enum-told .given .1,
+      ← c .stopped .ensures,
+    )
+
+-- src/status.rt:76:9
+psl-requires : tie.Need-psl-requires
+psl-requires c κs = search needs
+
+-- src/status.rt:77:9
+with-psl-requires : tie.Need-with-psl-requires
+with-psl-requires c κs = search needs
+
+-- src/status.rt:78:9
+advanced-requires : tie.Need-advanced-requires
+advanced-requires c κs = search needs
+
+-- src/status.rt:79:5
+going-requires : tie.Need-going-requires
+going-requires c κs = search needs
+
+-- src/status.rt:69:1
+returns-2 : tie.Need-returns-2
+unfolding maskedOf withByte
+returns-2 c =
+    rw (
+      ← c .before .before .before .before .before .before .before .before .after .ensures,
+      sym (c .before .before .before .before .before .before .before .fetch .ensures) ∙ c .before .before .before .before .before .mask .given .1,
+      ← c .before .before .before .psl .ensures,
+      ← c .before .before .with-psl .ensures,
+      ← c .before .advanced .ensures,
+      ← c .going .ensures,
+    )
+
+pub preset-psl-spec : {M : Type 1} → statement M
+preset-psl-spec =
+    tie.close
+    (tie.spec
+    after-requires
+    fetch-requires
+    enum-known-mask
+    enum-told
+    stopped-requires
+    returns
+    psl-requires
+    with-psl-requires
+    advanced-requires
+    going-requires
+    returns-2)

@@ -1,0 +1,62 @@
+-- Definitions that must be believed: addresses of 15 bits in pages of 8,192, and reading through them
+-- (document 01, "The machine"; manual, "Memory Organization" and "Addressing Modes").
+use mathlib.Core.List.{List}
+use Prim.Native.Nat.{ℕ, _+_, _*_, _/_, _%_, _-_}
+use lib.Dec.{eqb, ltb}
+use lib.ListN.{getD, length}
+use lib.IntN.{ℤ, pos, negsuc}
+use Rattle.cpu.specs.Choice.{if_then_else_}
+use Rattle.cpu.specs.declared.address.Address.{Address}
+use Rattle.cpu.specs.declared.address.Fetched.{Fetched}
+use Rattle.cpu.specs.declared.address.Fetched.the-variants.{Byte, NoByte}
+use Rattle.cpu.specs.declared.address.Located.{Located}
+use Rattle.cpu.specs.declared.address.Located.the-variants.{At, Outside}
+
+-- k further, within the page
+abbrev pub inPage : Address → ℕ → Address
+inPage a k = record { 0 = a .0 / 8192 * 8192 + (a .0 % 8192 + k) % 8192 }
+
+-- k further, modulo 32,768
+abbrev pub onward : Address → ℕ → Address
+onward a k = record { 0 = (a .0 + k) % 32768 }
+
+-- the window's byte at an address; from the window's size on there is none
+unfoldable pub fetchOf : List ℕ → Address → Fetched
+fetchOf window a = if ltb (a .0) (length window) then Byte (getD window (a .0) 0) else NoByte
+
+-- what follows if there is a byte, or an address, and what if there is none
+unfoldable pub withByte : {A : Type 0} → Fetched → A → (ℕ → A) → A
+withByte (Byte b) stop go = go b
+withByte NoByte stop go = stop
+
+unfoldable pub withAddress : {A : Type 0} → Located → A → (Address → A) → A
+withAddress (At a) stop go = go a
+withAddress Outside stop go = stop
+
+-- fifteen bits of two bytes, high first, the top bit ignored
+abbrev pub addressOf : ℕ → ℕ → Address
+addressOf high low = record { 0 = high % 128 * 256 + low }
+
+-- a pointer is two bytes, the second within the first one's page
+unfoldable pub pointerOf : List ℕ → Address → Located
+pointerOf window a =
+    withByte (fetchOf window a) Outside (λ high.
+    withByte (fetchOf window (inPage a 1)) Outside (λ low.
+    At (addressOf high low)))
+
+-- the address itself, or where the pointer there leads if the indirect bit is 1
+unfoldable pub throughOf : List ℕ → ℕ → Address → Located
+throughOf window indirect a = if eqb indirect 0 then At a else pointerOf window a
+
+-- the low seven bits of a relative byte as a signed displacement, -64 to 63
+unfoldable pub displacementOf : ℕ → ℤ
+displacementOf b = if ltb (b % 128) 64 then pos (b % 128) else negsuc (127 - b % 128)
+
+-- a displacement added, modulo 8,192 in the page
+unfoldable pub displacedOf : Address → ℤ → Address
+displacedOf a (pos d) = inPage a d
+displacedOf a (negsuc d) = inPage a (8191 - d)
+
+-- the address that a relative byte names, from the next instruction
+unfoldable pub relativeOf : Address → ℕ → Address
+relativeOf next b = displacedOf next (displacementOf b)

@@ -1,0 +1,19 @@
+-- Definitions that must be believed, in reading order.
+pub mod Choice
+pub mod State
+pub mod Alu
+pub mod Address
+pub mod Decode
+pub mod Result
+pub mod Operand
+pub mod Branch
+pub mod Status
+pub mod Port
+pub mod Instruction
+pub mod Machine
+-- Laws that the checker has shown, for the layers above.
+pub mod Cases
+pub mod Times
+-- What private code is held to. No definition above mentions these two.
+pub mod Core
+pub mod Partition

@@ -1,0 +1,97 @@
+-- Definitions that must be believed: the operand of each addressing mode (document 01, "The machine"; manual, "Addressing Modes").
+use mathlib.Core.List.{List}
+use Prim.Native.Nat.{ℕ, _+_, _*_, _/_, _%_}
+use lib.Dec.{eqb}
+use Rattle.cpu.specs.Address.{inPage, onward, fetchOf, withByte, withAddress, pointerOf, throughOf, relativeOf}
+use Rattle.cpu.specs.Choice.{if_then_else_}
+use Rattle.cpu.specs.Result.{Stepped, Store, endedOf, stoppedOf, afterOf, advancedOf, operatedOf}
+use Rattle.cpu.specs.State.{counterOf, registerOf, withRegister}
+use Rattle.cpu.specs.declared.address.Address.{Address}
+use Rattle.cpu.specs.declared.address.Located.{Located}
+use Rattle.cpu.specs.declared.address.Located.the-variants.{At, Outside}
+use Rattle.cpu.specs.declared.decode.Mode.{Mode}
+use Rattle.cpu.specs.declared.decode.Mode.the-variants.{Register, Immediate, Relative, Absolute}
+use Rattle.cpu.specs.declared.decode.Use.{Use}
+use Rattle.cpu.specs.declared.decode.Use.the-variants.{Read, Write}
+use Rattle.cpu.specs.declared.state.Cpu.{Cpu}
+
+-- an operand: its byte, its address, the register that it is used with, and the state after the instruction's own bytes:
+-- the index stepped, the counter at the next instruction. An operand in a register or in the instruction has no address:
+-- 0 stands there, and no instruction uses it
+pub data Operand : Type 0 where
+  Found : ℕ → Address → ℕ → Cpu → Operand
+  NoOperand : Operand
+
+abbrev pub nowhere : Address
+nowhere = record { 0 = 0 }
+
+-- the index by the two control bits: none, one added first, one subtracted first, plain; modulo 256
+unfoldable pub indexOf : ℕ → ℕ → ℕ
+indexOf control v =
+    if eqb control 0 then 0
+    else (if eqb control 1 then (v + 1) % 256
+    else (if eqb control 2 then (v + 255) % 256 else v))
+
+-- the index is added within the page; after an indirect pointer it is added modulo 32,768
+unfoldable pub indexedAddressOf : List ℕ → ℕ → Address → ℕ → Located
+indexedAddressOf window indirect a i =
+    if eqb indirect 0 then At (inPage a i)
+    else withAddress (pointerOf window a) Outside (λ p. At (onward p i))
+
+-- thirteen bits of the instruction in its own page
+abbrev pub dataAddressOf : Cpu → ℕ → ℕ → Address
+dataAddressOf cpu high low = record { 0 = counterOf cpu .0 / 8192 * 8192 + (high % 32 * 256 + low) }
+
+-- indexed, the named register is the index and R0 the data
+unfoldable pub dataRegisterOf : ℕ → ℕ → ℕ
+dataRegisterOf control r = if eqb control 0 then r else 0
+
+-- the index changes first, and only with the instruction
+unfoldable pub steppedIndexOf : Cpu → ℕ → ℕ → ℕ → Cpu
+steppedIndexOf cpu r control i = if eqb control 0 then cpu else withRegister cpu r i
+
+-- one byte: the named register, used with R0
+unfoldable pub registerOperandOf : Cpu → ℕ → Operand
+registerOperandOf cpu r = Found (registerOf cpu r) nowhere 0 (advancedOf cpu 1)
+
+-- two bytes: the second is the operand
+unfoldable pub immediateOperandOf : Cpu → List ℕ → ℕ → Operand
+immediateOperandOf cpu window r =
+    withByte (fetchOf window (afterOf cpu 1)) NoOperand (λ b. Found b nowhere r (advancedOf cpu 2))
+
+-- two bytes: bit 7 for indirect, and a displacement from the next instruction
+unfoldable pub relativeOperandOf : Cpu → List ℕ → ℕ → Operand
+relativeOperandOf cpu window r =
+    withByte (fetchOf window (afterOf cpu 1)) NoOperand (λ second.
+    withAddress (throughOf window (second / 128) (relativeOf (afterOf cpu 2) second)) NoOperand (λ a.
+    withByte (fetchOf window a) NoOperand (λ b.
+    Found b a r (advancedOf cpu 2))))
+
+-- three bytes: bit 7 for indirect, bits 6 and 5 for indexing, and thirteen bits of address
+unfoldable pub absoluteOperandOf : Cpu → List ℕ → ℕ → Operand
+absoluteOperandOf cpu window r =
+    withByte (fetchOf window (afterOf cpu 1)) NoOperand (λ high.
+    withByte (fetchOf window (afterOf cpu 2)) NoOperand (λ low.
+    withAddress (indexedAddressOf window (high / 128) (dataAddressOf cpu high low) (indexOf (high / 32 % 4) (registerOf cpu r))) NoOperand (λ a.
+    withByte (fetchOf window a) NoOperand (λ b.
+    Found b a (dataRegisterOf (high / 32 % 4) r) (advancedOf (steppedIndexOf cpu r (high / 32 % 4) (indexOf (high / 32 % 4) (registerOf cpu r))) 3)))))
+
+unfoldable pub operandOf : Mode → Cpu → List ℕ → ℕ → Operand
+operandOf Register cpu window r = registerOperandOf cpu r
+operandOf Immediate cpu window r = immediateOperandOf cpu window r
+operandOf Relative cpu window r = relativeOperandOf cpu window r
+operandOf Absolute cpu window r = absoluteOperandOf cpu window r
+
+abbrev pub withOperand : {A : Type 0} → Operand → A → (ℕ → Address → ℕ → Cpu → A) → A
+withOperand (Found b a d cpu) stop go = go b a d cpu
+withOperand NoOperand stop go = stop
+
+-- the operand is worked on, or the register stored over it
+abbrev pub usedOf : Use → Cpu → ℕ → ℕ → Address → Stepped
+usedOf (Read f) cpu d b a = operatedOf f cpu d b
+usedOf Write cpu d b a = endedOf cpu 1 (Store a (registerOf cpu d))
+
+-- an operand that is outside the window anywhere stops the instruction with status 6
+unfoldable pub withOperandOf : Mode → Use → Cpu → List ℕ → ℕ → Stepped
+withOperandOf mode usage cpu window r =
+    withOperand (operandOf mode cpu window r) (stoppedOf cpu 6) (λ b a d after. usedOf usage after d b a)

@@ -1,0 +1,59 @@
+-- Definitions that must be believed: what a step comes to, and the ways in which one ends (document 01, "Status of a station").
+use mathlib.Core.Bool.{Bool}
+use Prim.Native.Nat.{ℕ}
+use Rattle.cpu.specs.Address.{inPage}
+use Rattle.cpu.specs.Alu.{operateOf}
+use Rattle.cpu.specs.State.{counterOf, pslOf, registerOf, withCounter, withRegister, withPsl}
+use Rattle.cpu.specs.declared.address.Address.{Address}
+use Rattle.cpu.specs.declared.alu.Outcome.{Outcome}
+use Rattle.cpu.specs.declared.decode.Operation.{Operation}
+use Rattle.cpu.specs.declared.state.Cpu.{Cpu}
+
+-- what a step may see of the buffers: is input unread, its next byte, is the output full
+pub record Ports : Type 0 where
+  pub unread : Bool
+  pub byte : ℕ
+  pub full : Bool
+
+-- what a step does beside the state: a byte stored in the window, the input byte taken, a byte put out
+pub data Effect : Type 0 where
+  Nothing : Effect
+  Store : Address → ℕ → Effect
+  Take : Effect
+  Put : ℕ → Effect
+
+pub record Stepped : Type 0 where
+  pub cpu : Cpu
+  pub status : ℕ
+  pub effect : Effect
+
+abbrev pub endedOf : Cpu → ℕ → Effect → Stepped
+endedOf cpu n x = record { cpu = cpu; status = n; effect = x }
+
+-- status 1, and no effect but on the state
+abbrev pub goingOf : Cpu → Stepped
+goingOf cpu = endedOf cpu 1 Nothing
+
+-- statuses 3 to 7: nothing of the instruction takes effect, and the counter remains at its first byte
+abbrev pub stoppedOf : Cpu → ℕ → Stepped
+stoppedOf cpu n = endedOf cpu n Nothing
+
+-- the address k after the instruction's first byte
+abbrev pub afterOf : Cpu → ℕ → Address
+afterOf cpu k = inPage (counterOf cpu) k
+
+-- the counter past an instruction of k bytes
+unfoldable pub advancedOf : Cpu → ℕ → Cpu
+advancedOf cpu k = withCounter cpu (afterOf cpu k)
+
+-- a result goes to register r, and its PSL with it
+unfoldable pub appliedOf : Cpu → ℕ → Outcome → Cpu
+appliedOf cpu r o = withPsl (withRegister cpu r (o .value)) (o .psl)
+
+-- an instruction of one byte that changes register r alone
+unfoldable pub changedOf : Cpu → ℕ → Outcome → Stepped
+changedOf cpu r o = goingOf (advancedOf (appliedOf cpu r o) 1)
+
+-- an operation on register r and the operand b
+unfoldable pub operatedOf : Operation → Cpu → ℕ → ℕ → Stepped
+operatedOf f cpu r b = goingOf (appliedOf cpu r (operateOf f (pslOf cpu) (registerOf cpu r) b))

@@ -1,0 +1,94 @@
+ghost use mathlib.Core.Path.{_≡_};
+ghost use Prim.Native.Nat.{ℕ, _+_, _*_, _%_, _<_};
+ghost use lib.Signed.{mag};
+ghost use Rattle.cpu.specs.Address.{inPage, onward, addressOf, fetchOf, pointerOf, throughOf, displacementOf, displacedOf, relativeOf};
+
+// A machine address: a place in the window, and never one in memory.
+pub struct Address(pub u16);
+
+pub enum Fetched {
+    Byte(u8),
+    NoByte,
+}
+
+pub enum Located {
+    At(Address),
+    Outside,
+}
+
+pub(crate) fn in_page(a: Address, k: u16) -> Address
+    requires { ⌜ k < 16384 ⌝ }
+    ensures { λ r. ⌜ r ≡ inPage a k ⌝ }
+{
+    Address(a.0 / 8192 * 8192 + (a.0 % 8192 + k) % 8192)
+}
+
+pub(crate) fn onward(a: Address, k: u8) -> Address
+    ensures { λ r. ⌜ r ≡ onward a k ⌝ }
+{
+    Address(((a.0 as u32 + k as u32) % 32768) as u16)
+}
+
+pub(crate) fn joined(high: u8, low: u8) -> Address
+    ensures { λ r. ⌜ r ≡ addressOf high low ⌝ }
+{
+    Address((high % 128) as u16 * 256 + low as u16)
+}
+
+pub(crate) fn fetch(window: &[u8], a: Address) -> Fetched
+    ensures { λ r. ⌜ r ≡ fetchOf (now (window .entry)) a ⌝ }
+{
+    let i = a.0 as usize;
+    if i < window.len() {
+        Fetched::Byte(window[i])
+    } else {
+        Fetched::NoByte
+    }
+}
+
+pub(crate) fn pointer(window: &[u8], a: Address) -> Located
+    ensures { λ r. ⌜ r ≡ pointerOf (now (window .entry)) a ⌝ }
+{
+    let Fetched::Byte(high) = fetch(window, a) else {
+        return Located::Outside;
+    };
+    let Fetched::Byte(low) = fetch(window, in_page(a, 1)) else {
+        return Located::Outside;
+    };
+    let p = joined(high, low);
+    Located::At(p)
+}
+
+pub(crate) fn through(window: &[u8], indirect: u8, a: Address) -> Located
+    ensures { λ r. ⌜ r ≡ throughOf (now (window .entry)) indirect a ⌝ }
+{
+    if indirect == 0 {
+        Located::At(a)
+    } else {
+        pointer(window, a)
+    }
+}
+
+// The seven-bit field as a signed number.
+fn displacement(b: u8) -> i16
+    ensures { λ r. ⌜ r ≡ displacementOf b ⌝ }
+{
+    let d = b % 128;
+    if d < 64 { d as i16 } else { d as i16 - 128 }
+}
+
+// A page is added first, so that the signed sum is never negative.
+fn displaced(a: Address, d: i16) -> Address
+    requires { ⌜ mag d < 64 ⌝ }
+    ensures { λ r. ⌜ r ≡ displacedOf a d ⌝ }
+{
+    let o = (a.0 % 8192 + 8192) as i16 + d;
+    Address(a.0 / 8192 * 8192 + (o as u16) % 8192)
+}
+
+pub(crate) fn relative(next: Address, b: u8) -> Address
+    ensures { λ r. ⌜ r ≡ relativeOf next b ⌝ }
+{
+    let d = displacement(b);
+    displaced(next, d)
+}

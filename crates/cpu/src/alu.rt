@@ -1,0 +1,230 @@
+ghost use mathlib.Core.Path.{_≡_};
+ghost use Prim.Native.Nat.{ℕ, _<_};
+ghost use Rattle.cpu.specs.State.{bitRS};
+ghost use Rattle.cpu.specs.Alu.{conditionOf, withCC, withFlags, sumOf, carryOf, digitCarryOf, overflowOf, addedOf, carryInOf, loadedOf, signedOf, compareOf, comparedOf, operateOf, testOf, rotatedOf, rotateLeftOf, rotateRightOf, digitOf, decimalOf};
+use crate::decode::Operation;
+
+// A result byte, and the PSL that it leaves. No result changes RS: every function here that makes one says so.
+pub struct Outcome {
+    pub value: u8,
+    pub psl: u8,
+}
+
+fn condition(b: u8) -> u8
+    ensures { λ r. ⌜ r ≡ conditionOf b ⌝ }
+    ensures { λ r. ⌜ r < 3 ⌝ }
+{
+    if b == 0 {
+        0
+    } else if b < 128 {
+        1
+    } else {
+        2
+    }
+}
+
+pub(crate) fn with_cc(psl: u8, cc: u8) -> u8
+    requires { ⌜ cc < 3 ⌝ }
+    ensures { λ r. ⌜ r ≡ withCC psl cc ⌝ }
+    ensures { λ r. ⌜ bitRS r ≡ bitRS psl ⌝ }
+{
+    cc * 64 + psl % 64
+}
+
+fn with_flags(psl: u8, cc: u8, idc: u8, ovf: u8, c: u8) -> u8
+    requires { ⌜ cc < 3 ⌝ }
+    requires { ⌜ idc < 2 ⌝ }
+    requires { ⌜ ovf < 2 ⌝ }
+    requires { ⌜ c < 2 ⌝ }
+    ensures { λ r. ⌜ r ≡ withFlags psl cc idc ovf c ⌝ }
+    ensures { λ r. ⌜ bitRS r ≡ bitRS psl ⌝ }
+{
+    cc * 64 + idc * 32 + psl / 8 % 4 * 8 + ovf * 4 + psl / 2 % 2 * 2 + c
+}
+
+fn sum(a: u8, b: u8, k: u8) -> u8
+    ensures { λ r. ⌜ r ≡ sumOf a b k ⌝ }
+{
+    let t = std::num::wrapping_add_u8(a, b);
+    std::num::wrapping_add_u8(t, k)
+}
+
+// The carry, recovered: a sum that wrapped is below what was added to.
+fn carry(a: u8, b: u8, k: u8) -> u8
+    requires { ⌜ k < 2 ⌝ }
+    ensures { λ r. ⌜ r ≡ carryOf a b k ⌝ }
+    ensures { λ r. ⌜ r < 2 ⌝ }
+{
+    let t = std::num::wrapping_add_u8(a, b);
+    let s = std::num::wrapping_add_u8(t, k);
+    if t < a {
+        1
+    } else if s < t {
+        1
+    } else {
+        0
+    }
+}
+
+fn digit_carry(a: u8, b: u8, k: u8) -> u8
+    requires { ⌜ k < 2 ⌝ }
+    ensures { λ r. ⌜ r ≡ digitCarryOf a b k ⌝ }
+    ensures { λ r. ⌜ r < 2 ⌝ }
+{
+    (a % 16 + b % 16 + k) / 16
+}
+
+// The signed sum is out of range exactly if the carries into and out of bit 7 differ.
+fn overflow(a: u8, b: u8, k: u8) -> u8
+    requires { ⌜ k < 2 ⌝ }
+    ensures { λ r. ⌜ r ≡ overflowOf a b k ⌝ }
+    ensures { λ r. ⌜ r < 2 ⌝ }
+{
+    let into = (a % 128 + b % 128 + k) / 128;
+    let out = carry(a, b, k);
+    (into + out) % 2
+}
+
+fn added(psl: u8, a: u8, b: u8, k: u8) -> Outcome
+    requires { ⌜ k < 2 ⌝ }
+    ensures { λ o. ⌜ o ≡ addedOf psl a b k ⌝ }
+    ensures { λ o. ⌜ bitRS (o .psl) ≡ bitRS psl ⌝ }
+{
+    let value = sum(a, b, k);
+    let cc = condition(value);
+    let idc = digit_carry(a, b, k);
+    let ovf = overflow(a, b, k);
+    let c = carry(a, b, k);
+    Outcome {
+        value,
+        psl: with_flags(psl, cc, idc, ovf, c),
+    }
+}
+
+fn carry_in(psl: u8, other: u8) -> u8
+    requires { ⌜ other < 2 ⌝ }
+    ensures { λ r. ⌜ r ≡ carryInOf psl other ⌝ }
+    ensures { λ r. ⌜ r < 2 ⌝ }
+{
+    if psl / 8 % 2 == 0 { other } else { psl % 2 }
+}
+
+pub(crate) fn loaded(psl: u8, v: u8) -> Outcome
+    ensures { λ o. ⌜ o ≡ loadedOf psl v ⌝ }
+    ensures { λ o. ⌜ bitRS (o .psl) ≡ bitRS psl ⌝ }
+{
+    let cc = condition(v);
+    Outcome {
+        value: v,
+        psl: with_cc(psl, cc),
+    }
+}
+
+fn signed(b: u8) -> i16
+    ensures { λ r. ⌜ r ≡ signedOf b ⌝ }
+{
+    if b < 128 { b as i16 } else { b as i16 - 256 }
+}
+
+fn compare(unsigned: u8, a: u8, b: u8) -> u8
+    ensures { λ r. ⌜ r ≡ compareOf unsigned a b ⌝ }
+    ensures { λ r. ⌜ r < 3 ⌝ }
+{
+    if a == b {
+        return 0;
+    }
+    if unsigned == 0 {
+        let x = signed(a);
+        let y = signed(b);
+        if y < x { 1 } else { 2 }
+    } else if b < a {
+        1
+    } else {
+        2
+    }
+}
+
+fn compared(psl: u8, a: u8, b: u8) -> Outcome
+    ensures { λ o. ⌜ o ≡ comparedOf psl a b ⌝ }
+    ensures { λ o. ⌜ bitRS (o .psl) ≡ bitRS psl ⌝ }
+{
+    let cc = compare(psl / 2 % 2, a, b);
+    Outcome {
+        value: a,
+        psl: with_cc(psl, cc),
+    }
+}
+
+pub(crate) fn operate(operation: Operation, psl: u8, a: u8, b: u8) -> Outcome
+    ensures { λ o. ⌜ o ≡ operateOf operation psl a b ⌝ }
+    ensures { λ o. ⌜ bitRS (o .psl) ≡ bitRS psl ⌝ }
+{
+    match operation {
+        Operation::Lod => loaded(psl, b),
+        Operation::Eor => loaded(psl, a ^ b),
+        Operation::And => loaded(psl, a & b),
+        Operation::Ior => loaded(psl, a | b),
+        Operation::Add => added(psl, a, b, carry_in(psl, 0)),
+        Operation::Sub => added(psl, a, 255 - b, carry_in(psl, 1)),
+        Operation::Com => compared(psl, a, b),
+    }
+}
+
+pub(crate) fn test(v: u8, mask: u8) -> u8
+    ensures { λ r. ⌜ r ≡ testOf v mask ⌝ }
+    ensures { λ r. ⌜ r < 3 ⌝ }
+{
+    let both = v & mask;
+    if both == mask { 0 } else { 2 }
+}
+
+fn rotated(psl: u8, a: u8, v: u8, c: u8) -> Outcome
+    requires { ⌜ c < 2 ⌝ }
+    ensures { λ o. ⌜ o ≡ rotatedOf psl a v c ⌝ }
+    ensures { λ o. ⌜ bitRS (o .psl) ≡ bitRS psl ⌝ }
+{
+    let cc = condition(v);
+    Outcome {
+        value: v,
+        psl: with_flags(psl, cc, v / 32 % 2, (a / 128 + v / 128) % 2, c),
+    }
+}
+
+pub(crate) fn rotate_left(psl: u8, a: u8) -> Outcome
+    ensures { λ o. ⌜ o ≡ rotateLeftOf psl a ⌝ }
+    ensures { λ o. ⌜ bitRS (o .psl) ≡ bitRS psl ⌝ }
+{
+    if psl / 8 % 2 == 0 {
+        loaded(psl, a % 128 * 2 + a / 128)
+    } else {
+        rotated(psl, a, a % 128 * 2 + psl % 2, a / 128)
+    }
+}
+
+pub(crate) fn rotate_right(psl: u8, a: u8) -> Outcome
+    ensures { λ o. ⌜ o ≡ rotateRightOf psl a ⌝ }
+    ensures { λ o. ⌜ bitRS (o .psl) ≡ bitRS psl ⌝ }
+{
+    if psl / 8 % 2 == 0 {
+        loaded(psl, a % 2 * 128 + a / 2)
+    } else {
+        rotated(psl, a, psl % 2 * 128 + a / 2, a % 2)
+    }
+}
+
+fn digit(carry: u8, d: u8) -> u8
+    requires { ⌜ d < 16 ⌝ }
+    ensures { λ r. ⌜ r ≡ digitOf carry d ⌝ }
+    ensures { λ r. ⌜ r < 16 ⌝ }
+{
+    if carry == 0 { (d + 10) % 16 } else { d }
+}
+
+pub(crate) fn decimal(psl: u8, a: u8) -> Outcome
+    ensures { λ o. ⌜ o ≡ decimalOf psl a ⌝ }
+    ensures { λ o. ⌜ bitRS (o .psl) ≡ bitRS psl ⌝ }
+{
+    let high = digit(psl % 2, a / 16);
+    let low = digit(psl / 32 % 2, a % 16);
+    loaded(psl, high * 16 + low)
+}

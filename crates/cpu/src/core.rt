@@ -1,0 +1,272 @@
+ghost use mathlib.Core.Path.{_≡_};
+ghost use mathlib.Core.List.{[], _∷_};
+ghost use Prim.Native.Nat.{ℕ, _*_, _/_, _%_, _<_};
+ghost use Rattle.cpu.specs.Core.{byteAt, putByte, quarterAt, putQuarter, bytesOf, bankedOf, cpuOf};
+ghost use Rattle.cpu.specs.State.{bitRS, counterOf, psuOf, pslOf, registerOf, returnOf, withCounter, withRegister, withPsu, withPsl, withReturn, calledOf, returnedOf};
+use crate::address::Address;
+use crate::state::Cpu;
+
+// The state while it runs: whole words only, so that the compiler keeps each in a register of its own.
+// `registers` has R0 in its lowest byte, then R1 to R3 of the bank in use, then those of the other bank.
+// `low` and `high` have four return addresses each. No other file touches a field.
+pub struct Core {
+    pub counter: u64,
+    pub psu: u64,
+    pub psl: u64,
+    pub registers: u64,
+    pub low: u64,
+    pub high: u64,
+}
+
+fn byte_at(x: u64, i: u64) -> u8
+    requires { ⌜ i < 7 ⌝ }
+    ensures { λ v. ⌜ v ≡ byteAt x i ⌝ }
+{
+    ((x >> (8 * i)) % 256) as u8
+}
+
+// The old part is taken out and the new one put in by one exclusive or.
+fn put_byte(x: u64, i: u64, v: u8) -> u64
+    requires { ⌜ i < 4 ⌝ }
+    ensures { λ y. ⌜ y ≡ putByte x i v ⌝ }
+{
+    let k = 8 * i;
+    let old = (x >> k) % 256;
+    x ^ ((old ^ (v as u64)) << k)
+}
+
+fn quarter_at(x: u64, i: u64) -> u16
+    requires { ⌜ i < 4 ⌝ }
+    ensures { λ v. ⌜ v ≡ quarterAt x i ⌝ }
+{
+    ((x >> (16 * i)) % 65536) as u16
+}
+
+fn put_quarter(x: u64, i: u64, v: u16) -> u64
+    requires { ⌜ i < 4 ⌝ }
+    ensures { λ y. ⌜ y ≡ putQuarter x i v ⌝ }
+{
+    let k = 16 * i;
+    let old = (x >> k) % 65536;
+    x ^ ((old ^ (v as u64)) << k)
+}
+
+pub(crate) fn counter(m: Core) -> Address
+    ensures { λ a. ⌜ a ≡ counterOf (cpuOf m) ⌝ }
+{
+    Address((m.counter % 65536) as u16)
+}
+
+pub(crate) fn psu(m: Core) -> u8
+    ensures { λ v. ⌜ v ≡ psuOf (cpuOf m) ⌝ }
+{
+    (m.psu % 256) as u8
+}
+
+pub(crate) fn psl(m: Core) -> u8
+    ensures { λ v. ⌜ v ≡ pslOf (cpuOf m) ⌝ }
+{
+    (m.psl % 256) as u8
+}
+
+pub(crate) fn register(m: Core, r: u8) -> u8
+    requires { ⌜ r < 4 ⌝ }
+    ensures { λ v. ⌜ v ≡ registerOf (cpuOf m) r ⌝ }
+{
+    byte_at(m.registers, r as u64)
+}
+
+pub(crate) fn with_register(m: Core, r: u8, v: u8) -> Core
+    requires { ⌜ r < 4 ⌝ }
+    ensures { λ n. ⌜ cpuOf n ≡ withRegister (cpuOf m) r v ⌝ }
+{
+    let mut next = m;
+    next.registers = put_byte(m.registers, r as u64, v);
+    next
+}
+
+pub(crate) fn with_counter(m: Core, a: Address) -> Core
+    ensures { λ n. ⌜ cpuOf n ≡ withCounter (cpuOf m) a ⌝ }
+{
+    let mut next = m;
+    next.counter = a.0 as u64;
+    next
+}
+
+pub(crate) fn with_psu(m: Core, p: u8) -> Core
+    ensures { λ n. ⌜ cpuOf n ≡ withPsu (cpuOf m) p ⌝ }
+{
+    let mut next = m;
+    next.psu = p as u64;
+    next
+}
+
+// PSL with RS as it is, so that both banks stay where they are.
+pub(crate) fn with_result(m: Core, p: u8) -> Core
+    requires { ⌜ bitRS p ≡ bitRS (pslOf (cpuOf m)) ⌝ }
+    ensures { λ n. ⌜ cpuOf n ≡ withPsl (cpuOf m) p ⌝ }
+{
+    let mut next = m;
+    next.psl = p as u64;
+    next
+}
+
+// The register word with its two banks exchanged.
+fn exchanged(x: u64) -> u64
+    ensures { λ y. ⌜ bytesOf y ≡ bankedOf 1 (bytesOf x) ⌝ }
+{
+    x % 256 + x / 4294967296 % 16777216 * 256 + x / 256 % 16777216 * 4294967296
+}
+
+pub(crate) fn with_psl(m: Core, p: u8) -> Core
+    ensures { λ n. ⌜ cpuOf n ≡ withPsl (cpuOf m) p ⌝ }
+{
+    let old = psl(m);
+    if p / 16 % 2 == old / 16 % 2 {
+        return with_result(m, p);
+    }
+    let mut next = m;
+    next.registers = exchanged(m.registers);
+    next.psl = p as u64;
+    next
+}
+
+fn saved(m: Core, sp: u8) -> Address
+    requires { ⌜ sp < 8 ⌝ }
+    ensures { λ a. ⌜ a ≡ returnOf (cpuOf m) sp ⌝ }
+{
+    if sp < 4 {
+        Address(quarter_at(m.low, sp as u64))
+    } else {
+        Address(quarter_at(m.high, (sp - 4) as u64))
+    }
+}
+
+fn save(m: Core, sp: u8, a: Address) -> Core
+    requires { ⌜ sp < 8 ⌝ }
+    ensures { λ n. ⌜ cpuOf n ≡ withReturn (cpuOf m) sp a ⌝ }
+{
+    let mut next = m;
+    if sp < 4 {
+        next.low = put_quarter(m.low, sp as u64, a.0);
+        next
+    } else {
+        next.high = put_quarter(m.high, (sp - 4) as u64, a.0);
+        next
+    }
+}
+
+pub(crate) fn call(m: Core, back: Address) -> Core
+    ensures { λ n. ⌜ cpuOf n ≡ calledOf (cpuOf m) back ⌝ }
+{
+    let u = psu(m);
+    let sp = (u % 8 + 1) % 8;
+    let n = save(m, sp, back);
+    with_psu(n, u / 8 * 8 + sp)
+}
+
+pub(crate) fn ret(m: Core) -> Core
+    ensures { λ n. ⌜ cpuOf n ≡ returnedOf (cpuOf m) ⌝ }
+{
+    let u = psu(m);
+    let sp = u % 8;
+    let a = saved(m, sp);
+    let n = with_counter(m, a);
+    with_psu(n, u / 8 * 8 + (sp + 7) % 8)
+}
+
+fn seven(a: u8, b: u8, c: u8, d: u8, e: u8, f: u8, g: u8) -> u64
+    ensures { λ x. ⌜ bytesOf x ≡ a ∷ b ∷ c ∷ d ∷ e ∷ f ∷ g ∷ [] ⌝ }
+{
+    a as u64
+        + b as u64 * 256
+        + c as u64 * 65536
+        + d as u64 * 16777216
+        + e as u64 * 4294967296
+        + f as u64 * 1099511627776
+        + g as u64 * 281474976710656
+}
+
+fn four(a: u16, b: u16, c: u16, d: u16) -> u64
+    ensures { λ x. ⌜ quarterAt x 0 ≡ a ⌝ }
+    ensures { λ x. ⌜ quarterAt x 1 ≡ b ⌝ }
+    ensures { λ x. ⌜ quarterAt x 2 ≡ c ⌝ }
+    ensures { λ x. ⌜ quarterAt x 3 ≡ d ⌝ }
+{
+    a as u64 + b as u64 * 65536 + c as u64 * 4294967296 + d as u64 * 281474976710656
+}
+
+// PSL is set last: from RS 0, it puts the bank in use first.
+pub(crate) fn pack(m: Cpu) -> Core
+    ensures { λ n. ⌜ cpuOf n ≡ m ⌝ }
+{
+    let registers = seven(
+        m.registers[0],
+        m.registers[1],
+        m.registers[2],
+        m.registers[3],
+        m.registers[4],
+        m.registers[5],
+        m.registers[6],
+    );
+    let low = four(m.returns[0], m.returns[1], m.returns[2], m.returns[3]);
+    let high = four(m.returns[4], m.returns[5], m.returns[6], m.returns[7]);
+    let x = Core {
+        counter: 0,
+        psu: 0,
+        psl: 0,
+        registers,
+        low,
+        high,
+    };
+    let y = with_counter(x, Address(m.counter));
+    let z = with_psu(y, m.psu);
+    with_psl(z, m.psl)
+}
+
+// The register word with bank 0 first.
+fn ordered(m: Core) -> u64
+    ensures { λ x. ⌜ bytesOf x ≡ bankedOf (bitRS (pslOf (cpuOf m))) (bytesOf (m .registers)) ⌝ }
+{
+    let p = psl(m);
+    if p / 16 % 2 == 0 {
+        m.registers
+    } else {
+        exchanged(m.registers)
+    }
+}
+
+pub(crate) fn unpack(m: Core) -> Cpu
+    ensures { λ c. ⌜ c ≡ cpuOf m ⌝ }
+{
+    let x = ordered(m);
+    let y = m.low;
+    let z = m.high;
+    let a = counter(m);
+    let registers = [
+        byte_at(x, 0),
+        byte_at(x, 1),
+        byte_at(x, 2),
+        byte_at(x, 3),
+        byte_at(x, 4),
+        byte_at(x, 5),
+        byte_at(x, 6),
+    ];
+    let returns = [
+        quarter_at(y, 0),
+        quarter_at(y, 1),
+        quarter_at(y, 2),
+        quarter_at(y, 3),
+        quarter_at(z, 0),
+        quarter_at(z, 1),
+        quarter_at(z, 2),
+        quarter_at(z, 3),
+    ];
+    Cpu {
+        counter: a.0,
+        registers,
+        psu: psu(m),
+        psl: psl(m),
+        returns,
+    }
+}

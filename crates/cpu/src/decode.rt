@@ -1,0 +1,290 @@
+ghost use mathlib.Core.Path.{_≡_};
+ghost use Rattle.cpu.specs.Decode.{fourOf, firstOf, lastOf, decodeOf};
+
+// The families that come in four addressing modes, by the manual's mnemonics.
+pub enum Operation {
+    Lod,
+    Eor,
+    And,
+    Ior,
+    Add,
+    Sub,
+    Com,
+}
+
+// Where the operand stands: mnemonics that end in Z, I, R and A.
+pub enum Mode {
+    Register,
+    Immediate,
+    Relative,
+    Absolute,
+}
+
+// What is done with it: it is worked on, or a register is stored over it.
+pub enum Use {
+    Read(Operation),
+    Write,
+}
+
+// Relative, with two bytes, or absolute, with three.
+pub enum Reach {
+    Near,
+    Far,
+}
+
+// The branches on a condition or a register; the last three are calls.
+pub enum Kind {
+    Bct,
+    Bcf,
+    Brn,
+    Bir,
+    Bdr,
+    Bst,
+    Bsf,
+    Bsn,
+}
+
+// The four unused ports are REDC, WRTC, REDE and WRTE. Each kind of instruction that needs code of some size
+// stands here once, with what differs inside it: such code then has one caller, and is compiled into it.
+pub enum Instruction {
+    Unknown,
+    UnusedPort,
+    Operate(Mode, Use),
+    Strz,
+    Nop,
+    Halt,
+    Spsu,
+    Spsl,
+    Lpsu,
+    Lpsl,
+    Cpsu,
+    Cpsl,
+    Ppsu,
+    Ppsl,
+    Tpsu,
+    Tpsl,
+    Tmi,
+    Dar,
+    Rrr,
+    Rrl,
+    Redd,
+    Wrtd,
+    Retc,
+    Rete,
+    Branch(Reach, Kind),
+    Zbrr,
+    Zbsr,
+    Bxa,
+    Bsxa,
+}
+
+fn four(a: Instruction, b: Instruction, c: Instruction, d: Instruction, r: u8) -> Instruction
+    ensures { λ i. ⌜ i ≡ fourOf a b c d r ⌝ }
+{
+    if r == 0 {
+        a
+    } else if r == 1 {
+        b
+    } else if r == 2 {
+        c
+    } else {
+        d
+    }
+}
+
+fn first(a: Instruction, others: Instruction, r: u8) -> Instruction
+    ensures { λ i. ⌜ i ≡ firstOf a others r ⌝ }
+{
+    if r == 0 { a } else { others }
+}
+
+fn last(others: Instruction, d: Instruction, r: u8) -> Instruction
+    ensures { λ i. ⌜ i ≡ lastOf others d r ⌝ }
+{
+    if r == 3 { d } else { others }
+}
+
+pub(crate) fn decode(op: u8) -> Instruction
+    ensures { λ i. ⌜ i ≡ decodeOf op ⌝ }
+{
+    let r = op % 4;
+    let class = op / 4;
+    match class {
+        // 00 unknown, 01 LODZ
+        0 => first(
+            Instruction::Unknown,
+            Instruction::Operate(Mode::Register, Use::Read(Operation::Lod)),
+            r,
+        ),
+        // 04 LODI
+        1 => Instruction::Operate(Mode::Immediate, Use::Read(Operation::Lod)),
+        // 08 LODR
+        2 => Instruction::Operate(Mode::Relative, Use::Read(Operation::Lod)),
+        // 0C LODA
+        3 => Instruction::Operate(Mode::Absolute, Use::Read(Operation::Lod)),
+        // 10, 11 unknown, 12 SPSU, 13 SPSL
+        4 => four(
+            Instruction::Unknown,
+            Instruction::Unknown,
+            Instruction::Spsu,
+            Instruction::Spsl,
+            r,
+        ),
+        // 14 RETC
+        5 => Instruction::Retc,
+        // 18 BCTR
+        6 => Instruction::Branch(Reach::Near, Kind::Bct),
+        // 1C BCTA
+        7 => Instruction::Branch(Reach::Far, Kind::Bct),
+        // 20 EORZ
+        8 => Instruction::Operate(Mode::Register, Use::Read(Operation::Eor)),
+        // 24 EORI
+        9 => Instruction::Operate(Mode::Immediate, Use::Read(Operation::Eor)),
+        // 28 EORR
+        10 => Instruction::Operate(Mode::Relative, Use::Read(Operation::Eor)),
+        // 2C EORA
+        11 => Instruction::Operate(Mode::Absolute, Use::Read(Operation::Eor)),
+        // 30 REDC
+        12 => Instruction::UnusedPort,
+        // 34 RETE
+        13 => Instruction::Rete,
+        // 38 BSTR
+        14 => Instruction::Branch(Reach::Near, Kind::Bst),
+        // 3C BSTA
+        15 => Instruction::Branch(Reach::Far, Kind::Bst),
+        // 40 HALT, 41 ANDZ
+        16 => first(
+            Instruction::Halt,
+            Instruction::Operate(Mode::Register, Use::Read(Operation::And)),
+            r,
+        ),
+        // 44 ANDI
+        17 => Instruction::Operate(Mode::Immediate, Use::Read(Operation::And)),
+        // 48 ANDR
+        18 => Instruction::Operate(Mode::Relative, Use::Read(Operation::And)),
+        // 4C ANDA
+        19 => Instruction::Operate(Mode::Absolute, Use::Read(Operation::And)),
+        // 50 RRR
+        20 => Instruction::Rrr,
+        // 54 REDE
+        21 => Instruction::UnusedPort,
+        // 58 BRNR
+        22 => Instruction::Branch(Reach::Near, Kind::Brn),
+        // 5C BRNA
+        23 => Instruction::Branch(Reach::Far, Kind::Brn),
+        // 60 IORZ
+        24 => Instruction::Operate(Mode::Register, Use::Read(Operation::Ior)),
+        // 64 IORI
+        25 => Instruction::Operate(Mode::Immediate, Use::Read(Operation::Ior)),
+        // 68 IORR
+        26 => Instruction::Operate(Mode::Relative, Use::Read(Operation::Ior)),
+        // 6C IORA
+        27 => Instruction::Operate(Mode::Absolute, Use::Read(Operation::Ior)),
+        // 70 REDD
+        28 => Instruction::Redd,
+        // 74 CPSU, 75 CPSL, 76 PPSU, 77 PPSL
+        29 => four(
+            Instruction::Cpsu,
+            Instruction::Cpsl,
+            Instruction::Ppsu,
+            Instruction::Ppsl,
+            r,
+        ),
+        // 78 BSNR
+        30 => Instruction::Branch(Reach::Near, Kind::Bsn),
+        // 7C BSNA
+        31 => Instruction::Branch(Reach::Far, Kind::Bsn),
+        // 80 ADDZ
+        32 => Instruction::Operate(Mode::Register, Use::Read(Operation::Add)),
+        // 84 ADDI
+        33 => Instruction::Operate(Mode::Immediate, Use::Read(Operation::Add)),
+        // 88 ADDR
+        34 => Instruction::Operate(Mode::Relative, Use::Read(Operation::Add)),
+        // 8C ADDA
+        35 => Instruction::Operate(Mode::Absolute, Use::Read(Operation::Add)),
+        // 90, 91 unknown, 92 LPSU, 93 LPSL
+        36 => four(
+            Instruction::Unknown,
+            Instruction::Unknown,
+            Instruction::Lpsu,
+            Instruction::Lpsl,
+            r,
+        ),
+        // 94 DAR
+        37 => Instruction::Dar,
+        // 98 BCFR, 9B ZBRR
+        38 => last(
+            Instruction::Branch(Reach::Near, Kind::Bcf),
+            Instruction::Zbrr,
+            r,
+        ),
+        // 9C BCFA, 9F BXA
+        39 => last(
+            Instruction::Branch(Reach::Far, Kind::Bcf),
+            Instruction::Bxa,
+            r,
+        ),
+        // A0 SUBZ
+        40 => Instruction::Operate(Mode::Register, Use::Read(Operation::Sub)),
+        // A4 SUBI
+        41 => Instruction::Operate(Mode::Immediate, Use::Read(Operation::Sub)),
+        // A8 SUBR
+        42 => Instruction::Operate(Mode::Relative, Use::Read(Operation::Sub)),
+        // AC SUBA
+        43 => Instruction::Operate(Mode::Absolute, Use::Read(Operation::Sub)),
+        // B0 WRTC
+        44 => Instruction::UnusedPort,
+        // B4 TPSU, B5 TPSL, B6, B7 unknown
+        45 => four(
+            Instruction::Tpsu,
+            Instruction::Tpsl,
+            Instruction::Unknown,
+            Instruction::Unknown,
+            r,
+        ),
+        // B8 BSFR, BB ZBSR
+        46 => last(
+            Instruction::Branch(Reach::Near, Kind::Bsf),
+            Instruction::Zbsr,
+            r,
+        ),
+        // BC BSFA, BF BSXA
+        47 => last(
+            Instruction::Branch(Reach::Far, Kind::Bsf),
+            Instruction::Bsxa,
+            r,
+        ),
+        // C0 NOP, C1 STRZ
+        48 => first(Instruction::Nop, Instruction::Strz, r),
+        // C4 to C7 unknown
+        49 => Instruction::Unknown,
+        // C8 STRR
+        50 => Instruction::Operate(Mode::Relative, Use::Write),
+        // CC STRA
+        51 => Instruction::Operate(Mode::Absolute, Use::Write),
+        // D0 RRL
+        52 => Instruction::Rrl,
+        // D4 WRTE
+        53 => Instruction::UnusedPort,
+        // D8 BIRR
+        54 => Instruction::Branch(Reach::Near, Kind::Bir),
+        // DC BIRA
+        55 => Instruction::Branch(Reach::Far, Kind::Bir),
+        // E0 COMZ
+        56 => Instruction::Operate(Mode::Register, Use::Read(Operation::Com)),
+        // E4 COMI
+        57 => Instruction::Operate(Mode::Immediate, Use::Read(Operation::Com)),
+        // E8 COMR
+        58 => Instruction::Operate(Mode::Relative, Use::Read(Operation::Com)),
+        // EC COMA
+        59 => Instruction::Operate(Mode::Absolute, Use::Read(Operation::Com)),
+        // F0 WRTD
+        60 => Instruction::Wrtd,
+        // F4 TMI
+        61 => Instruction::Tmi,
+        // F8 BDRR
+        62 => Instruction::Branch(Reach::Near, Kind::Bdr),
+        // FC BDRA
+        _ => Instruction::Branch(Reach::Far, Kind::Bdr),
+    }
+}

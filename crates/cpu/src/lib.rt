@@ -1,0 +1,21 @@
+// The Signetics 2650, and one such machine over its own bytes: window, input buffer, output buffer.
+// It knows no memory, no table and no neighbour. A caller needs `step`, `run` and the three structs.
+mod address;
+mod alu;
+mod branch;
+mod core;
+mod decode;
+mod instruction;
+mod machine;
+mod operand;
+mod partition;
+mod port;
+mod result;
+mod state;
+mod status;
+
+pub use machine::Sizes;
+pub use machine::State;
+pub use machine::run;
+pub use machine::step;
+pub use state::Cpu;

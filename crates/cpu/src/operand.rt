@@ -1,0 +1,172 @@
+ghost use mathlib.Core.Path.{_≡_};
+ghost use Prim.Native.Nat.{ℕ, _<_};
+ghost use Rattle.cpu.specs.Core.{cpuOf, steppedOf, suppliedOf};
+ghost use Rattle.cpu.specs.Operand.{indexOf, indexedAddressOf, dataAddressOf, dataRegisterOf, steppedIndexOf, registerOperandOf, immediateOperandOf, relativeOperandOf, absoluteOperandOf, operandOf, withOperandOf};
+use crate::address;
+use crate::address::Address;
+use crate::address::Fetched;
+use crate::address::Located;
+use crate::core;
+use crate::core::Core;
+use crate::decode::Mode;
+use crate::decode::Use;
+use crate::result;
+use crate::result::Next;
+use crate::result::Pending;
+
+// An operand: its byte, its address, the control bits (not 0 where R0 is the data), and the state after the
+// instruction's own bytes. The control bits stand for the register, whose range they keep.
+pub enum Supply {
+    Ready(u8, Address, u8, Core),
+    Missing,
+}
+
+fn index(control: u8, v: u8) -> u8
+    ensures { λ i. ⌜ i ≡ indexOf control v ⌝ }
+{
+    if control == 0 {
+        0
+    } else if control == 1 {
+        std::num::wrapping_add_u8(v, 1)
+    } else if control == 2 {
+        std::num::wrapping_add_u8(v, 255)
+    } else {
+        v
+    }
+}
+
+fn indexed_address(window: &[u8], indirect: u8, a: Address, i: u8) -> Located
+    ensures { λ p. ⌜ p ≡ indexedAddressOf (now (window .entry)) indirect a i ⌝ }
+{
+    if indirect == 0 {
+        let d = address::in_page(a, i as u16);
+        return Located::At(d);
+    }
+    let Located::At(p) = address::pointer(window, a) else {
+        return Located::Outside;
+    };
+    let d = address::onward(p, i);
+    Located::At(d)
+}
+
+fn data_address(m: Core, high: u8, low: u8) -> Address
+    ensures { λ a. ⌜ a ≡ dataAddressOf (cpuOf m) high low ⌝ }
+{
+    let here = core::counter(m);
+    Address(here.0 / 8192 * 8192 + ((high % 32) as u16 * 256 + low as u16))
+}
+
+fn data_register(control: u8, r: u8) -> u8
+    requires { ⌜ r < 4 ⌝ }
+    ensures { λ d. ⌜ d ≡ dataRegisterOf control r ⌝ }
+    ensures { λ d. ⌜ d < 4 ⌝ }
+{
+    if control == 0 { r } else { 0 }
+}
+
+fn stepped_index(m: Core, r: u8, control: u8, i: u8) -> Core
+    requires { ⌜ r < 4 ⌝ }
+    ensures { λ n. ⌜ cpuOf n ≡ steppedIndexOf (cpuOf m) r control i ⌝ }
+{
+    if control == 0 {
+        m
+    } else {
+        core::with_register(m, r, i)
+    }
+}
+
+fn register_operand(m: Core, r: u8) -> Supply
+    requires { ⌜ r < 4 ⌝ }
+    ensures { λ o. ⌜ suppliedOf r o ≡ registerOperandOf (cpuOf m) r ⌝ }
+{
+    let b = core::register(m, r);
+    let n = result::advanced(m, 1);
+    Supply::Ready(b, Address(0), 1, n)
+}
+
+fn immediate_operand(m: Core, window: &[u8], r: u8) -> Supply
+    ensures { λ o. ⌜ suppliedOf r o ≡ immediateOperandOf (cpuOf m) (now (window .entry)) r ⌝ }
+{
+    let at = result::after(m, 1);
+    let Fetched::Byte(b) = address::fetch(window, at) else {
+        return Supply::Missing;
+    };
+    let n = result::advanced(m, 2);
+    Supply::Ready(b, Address(0), 0, n)
+}
+
+fn relative_operand(m: Core, window: &[u8], r: u8) -> Supply
+    ensures { λ o. ⌜ suppliedOf r o ≡ relativeOperandOf (cpuOf m) (now (window .entry)) r ⌝ }
+{
+    let at = result::after(m, 1);
+    let Fetched::Byte(second) = address::fetch(window, at) else {
+        return Supply::Missing;
+    };
+    let next = result::after(m, 2);
+    let direct = address::relative(next, second);
+    let Located::At(a) = address::through(window, second / 128, direct) else {
+        return Supply::Missing;
+    };
+    let Fetched::Byte(b) = address::fetch(window, a) else {
+        return Supply::Missing;
+    };
+    let n = result::advanced(m, 2);
+    Supply::Ready(b, a, 0, n)
+}
+
+fn absolute_operand(m: Core, window: &[u8], r: u8) -> Supply
+    requires { ⌜ r < 4 ⌝ }
+    ensures { λ o. ⌜ suppliedOf r o ≡ absoluteOperandOf (cpuOf m) (now (window .entry)) r ⌝ }
+{
+    let first = result::after(m, 1);
+    let Fetched::Byte(high) = address::fetch(window, first) else {
+        return Supply::Missing;
+    };
+    let second = result::after(m, 2);
+    let Fetched::Byte(low) = address::fetch(window, second) else {
+        return Supply::Missing;
+    };
+    let control = high / 32 % 4;
+    let v = core::register(m, r);
+    let i = index(control, v);
+    let direct = data_address(m, high, low);
+    let Located::At(a) = indexed_address(window, high / 128, direct, i) else {
+        return Supply::Missing;
+    };
+    let Fetched::Byte(b) = address::fetch(window, a) else {
+        return Supply::Missing;
+    };
+    let s = stepped_index(m, r, control, i);
+    let n = result::advanced(s, 3);
+    Supply::Ready(b, a, control, n)
+}
+
+fn find(mode: Mode, m: Core, window: &[u8], r: u8) -> Supply
+    requires { ⌜ r < 4 ⌝ }
+    ensures { λ o. ⌜ suppliedOf r o ≡ operandOf mode (cpuOf m) (now (window .entry)) r ⌝ }
+{
+    match mode {
+        Mode::Register => register_operand(m, r),
+        Mode::Immediate => immediate_operand(m, window, r),
+        Mode::Relative => relative_operand(m, window, r),
+        Mode::Absolute => absolute_operand(m, window, r),
+    }
+}
+
+// A store looks its operand up like the others: the same addresses are outside.
+pub(crate) fn with_operand(mode: Mode, usage: Use, m: Core, window: &[u8], r: u8) -> Next
+    requires { ⌜ r < 4 ⌝ }
+    ensures { λ s. ⌜ steppedOf s ≡ withOperandOf mode usage (cpuOf m) (now (window .entry)) r ⌝ }
+{
+    let Supply::Ready(b, a, control, n) = find(mode, m, window, r) else {
+        return result::stopped(m, 6);
+    };
+    let d = data_register(control, r);
+    match usage {
+        Use::Read(f) => result::operated(f, n, d, b),
+        Use::Write => {
+            let v = core::register(n, d);
+            result::ended(n, 1, Pending::Store(a.0 as u64, v as u64))
+        }
+    }
+}
