@@ -174,6 +174,46 @@ low (Put v) b k l n p r w = low-put v b k l n p r w _ refl
 pub positions-law : (x : Pending) (b : Bounds) (k : Positions) (l : List ℕ) (n : ℕ) → Parts b n → k .read < 65536 → k .written < 65536 → (m : Settled) → m ≡ settledOf x b k l → Low m
 positions-law x b k l n p r w m e = rw (e) (low x b k l n p r w)
 
+-- what lies behind the partition stays
+beyond-store : (a v : ℕ) (b : Bounds) (k : Positions) (l : List ℕ) (n : ℕ) → Parts b n → (t : Bool) → ltb a (b .first) ≡ t → drop (b .end) (settledOf (Store a v) b k l .bytes) ≡ drop (b .end) l
+unfolding settledOf if_then_else_
+beyond-store a v b k l n p true h =
+    let g : a < b .first = ltb-true _ _ h in
+    let d1 = p .first in
+    let d2 = p .output in
+    let d3 = p .end in
+    let x : a < b .end = omega arith in
+    rw (h, drop-set-lt (b .end) l a (v % 256) x)
+beyond-store a v b k l n p false h = rw (h)
+
+beyond-take : (b : Bounds) (k : Positions) (l : List ℕ) → (t : Bool) → ltb (k .read) (b .filled) ≡ t → drop (b .end) (settledOf Take b k l .bytes) ≡ drop (b .end) l
+unfolding settledOf if_then_else_
+beyond-take b k l true h = rw (h)
+beyond-take b k l false h = rw (h)
+
+beyond-put : (v : ℕ) (b : Bounds) (k : Positions) (l : List ℕ) (n : ℕ) → Parts b n → (t : Bool) → ltb (b .output + k .written) (b .third) ≡ t → drop (b .end) (settledOf (Put v) b k l .bytes) ≡ drop (b .end) l
+unfolding settledOf if_then_else_
+beyond-put v b k l n p true h =
+    let g : b .output + k .written < b .third = ltb-true _ _ h in
+    let d = p .third in
+    let x : b .output + k .written < b .end = omega arith in
+    rw (h, drop-set-lt (b .end) l (b .output + k .written) (v % 256) x)
+beyond-put v b k l n p false h = rw (h)
+
+beyond-kept : (x : Pending) (b : Bounds) (k : Positions) (l : List ℕ) (n : ℕ) → Parts b n → drop (b .end) (settledOf x b k l .bytes) ≡ drop (b .end) l
+unfolding settledOf
+beyond-kept Nothing b k l n p = refl
+beyond-kept (Store a v) b k l n p = beyond-store a v b k l n p _ refl
+beyond-kept Take b k l n p = beyond-take b k l _ refl
+beyond-kept (Put v) b k l n p = beyond-put v b k l n p _ refl
+
+pub beyond-law : (x : Pending) (b : Bounds) (k : Positions) (l : List ℕ) (n : ℕ) → Parts b n → (m : Settled) → m ≡ settledOf x b k l → drop (b .end) (m .bytes) ≡ drop (b .end) l
+beyond-law x b k l n p m e = rw (e) (beyond-kept x b k l n p)
+
+pub end-law : (w i o f n : ℕ) (b : Bounds) → b ≡ boundsOf w i o f n → b .end ≡ w + i + o
+unfolding boundsOf
+end-law w i o f n b e = ap (λ (x : Bounds). x .end) e
+
 -- one turn of the loop is one step of the machine
 same : (b : Bounds) (c : Cpu) (s : ℕ) (k : Positions) (l : List ℕ) (w : Next) → effectOf (pendingOf (w .effect)) (machineAt b (cpuOf (w .core)) (w .status) k l) ≡ afterStep (steppedOf w) (machineAt b c s k l)
 unfolding machineAt steppedOf

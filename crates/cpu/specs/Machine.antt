@@ -36,6 +36,10 @@ machineOf sizes state bytes =
       written = state .written;
     }
 
+-- what a slice that is longer than its partition holds behind it
+abbrev pub beyond : Sizes → List ℕ → List ℕ
+beyond sizes bytes = drop (sizes .window + sizes .input + sizes .output) bytes
+
 -- with read at filled nothing is unread; with written at the capacity the output is full
 abbrev pub portsOf : Machine → Ports
 portsOf m =

@@ -1,5 +1,5 @@
 ghost use mathlib.Core.Path.{_≡_};
-ghost use Rattle.cpu.specs.Machine.{machineOf, machineStep, times};
+ghost use Rattle.cpu.specs.Machine.{beyond, machineOf, machineStep, times};
 use crate::core;
 use crate::partition;
 use crate::partition::Positions;
@@ -21,10 +21,11 @@ pub struct Sizes {
     pub output: u16,
 }
 
-// At most so many steps, until the status is not 1. The slice holds the partition's bytes and nothing else;
-// one that is shorter than the sizes cuts the parts that it ends in.
+// At most so many steps, until the status is not 1. The slice holds the partition's bytes and nothing else: one that is
+// shorter than the sizes cuts the parts that it ends in, and of one that is longer the rest is untouched.
 pub fn run(state: State, partition: &mut [u8], sizes: Sizes, steps: u64) -> State
     ensures { λ s. ⌜ machineOf sizes s (now (partition .exit)) ≡ times steps machineStep (machineOf sizes state (now (partition .entry))) ⌝ }
+    ensures { λ s. ⌜ beyond sizes (now (partition .exit)) ≡ beyond sizes (now (partition .entry)) ⌝ }
 {
     let b = partition::parted(
         sizes.window,
@@ -66,6 +67,7 @@ pub fn run(state: State, partition: &mut [u8], sizes: Sizes, steps: u64) -> Stat
 // One step.
 pub fn step(state: State, partition: &mut [u8], sizes: Sizes) -> State
     ensures { λ s. ⌜ machineOf sizes s (now (partition .exit)) ≡ machineStep (machineOf sizes state (now (partition .entry))) ⌝ }
+    ensures { λ s. ⌜ beyond sizes (now (partition .exit)) ≡ beyond sizes (now (partition .entry)) ⌝ }
 {
     run(state, partition, sizes, 1)
 }

@@ -1,11 +1,11 @@
 use Prim.Native.Nat.{_+_, _-_, _<_, _≤_, ℕ}
-use Rattle.cpu.proofs.Parting.{once, parts-inside, positions-law, status-at, view-law}
+use Rattle.cpu.proofs.Parting.{beyond-law, end-law, once, parts-inside, positions-law, status-at, view-law}
 use Rattle.cpu.specs.Core.{cpuOf}
 use Rattle.cpu.specs.Machine.{Machine, machineOf, machineStep, times}
 use Rattle.cpu.specs.Partition.{Parts, machineAt, settled}
 use Rattle.cpu.specs.Times.{times-add, times-rests, times-suc}
 use borrow.Author.Needs.{needs}
-use lib.ListN.{length}
+use lib.ListN.{drop, length}
 use mathlib.Core.Logic.{⊎-elim}
 use mathlib.Core.Path.{_∙_, _≡_, ap, refl, subst, sym}
 use native.Mathlib.Omega.{arith}
@@ -16,7 +16,7 @@ use Rattle.cpu.proofs.machine.run.Statement.{statement}
 use Rattle.cpu.proofs.machine.run.Tie as tie
 
 abbrev Inv-loop : tie.InvT-loop
-Inv-loop state partition₀ steps b core₀ status₀ k₀ i₀ partition core status k i = (i ≤ steps) × (length partition ≡ length partition₀) × (k .read < 65536) × (k .written < 65536) × (machineAt b (cpuOf core) status k partition ≡ times i machineStep (machineAt b (cpuOf core₀) status₀ k₀ partition₀))
+Inv-loop state partition₀ steps b core₀ status₀ k₀ i₀ partition core status k i = (i ≤ steps) × (length partition ≡ length partition₀) × (k .read < 65536) × (k .written < 65536) × (machineAt b (cpuOf core) status k partition ≡ times i machineStep (machineAt b (cpuOf core₀) status₀ k₀ partition₀)) × (drop (b .end) partition ≡ drop (b .end) partition₀)
 
 abbrev μ-loop : tie.MeasureT-loop
 μ-loop state partition₀ steps b core₀ status₀ k₀ i₀ partition core status k i = steps - i
@@ -40,7 +40,7 @@ cast-t16 c = search needs
 -- src/machine.rt:37:5
 loop-holds : tie.Need-loop-holds Inv-loop μ-loop
 unfolding times
-loop-holds c = (omega arith, refl, search needs, search needs, refl)
+loop-holds c = (omega arith, refl, search needs, search needs, refl, refl)
 
 -- src/machine.rt:41:13
 advance-requires : tie.Need-advance-requires Inv-loop μ-loop
@@ -83,6 +83,7 @@ loop-again c = let here = c .before .before .before .before .before .before .bef
       once (start .result) (here .core) (here .status) (here .k) (here .partition) q (c .before .before .before .before .before .before .before .if1 .left) (went .result) (went .ensures) (put .result) _ (put .ensures)
           ∙ ap machineStep (here .inv .4)
           ∙ sym (times-suc (here .i) _),
+      beyond-law (went .result .effect) (start .result) (here .k) (here .partition) _ q (settled (put .result) _) (put .ensures) ∙ here .inv .5,
     )
 
 -- src/machine.rt:50:9
@@ -127,7 +128,10 @@ returns c = let here = c .before .before .before .before .loop in
     let last : machineOf (args .sizes) s (here .partition) ≡ after =
     sym (view-law (args .sizes) s (start .result) _ (here .k) (here .partition) (start .ensures .0) refl refl)
     ∙ ap (λ (n : Cpu). machineAt (start .result) n (here .status) (here .k) (here .partition)) (c .before .before .unpack .ensures) in
-    last ∙ done ∙ ap (times (args .steps) machineStep) first
+    let past : start .result .end ≡ args .sizes .window + args .sizes .input + args .sizes .output = end-law _ _ _ _ _ _ (start .ensures .0) in (
+      last ∙ done ∙ ap (times (args .steps) machineStep) first,
+      ap (λ (n : ℕ). drop n (here .partition)) (sym past) ∙ here .inv .5 ∙ ap (λ (n : ℕ). drop n (args .partition .now)) past,
+    )
 
 pub run-spec : {M : Type 1} → statement M
 run-spec =

@@ -14,7 +14,7 @@ same-length c = search needs
 
 -- src/machine.rt:61:1
 returns : tie.Need-returns
-returns c = c .before .before .run .ensures ∙ times-one _
+returns c = (c .before .before .run .ensures .0 ∙ times-one _, c .before .before .run .ensures .1)
 
 pub step-spec : {M : Type 1} → statement M
 step-spec = tie.close (tie.spec run-requires same-length returns)
