@@ -1,7 +1,7 @@
 -- A run reads and writes a partition by its bounds: what that is for the lone machine.
 use mathlib.Core.Bool.{Bool, true, false}
 use mathlib.Core.List.{List}
-use mathlib.Core.Path.{_≡_, refl, sym, ap, _∙_}
+use mathlib.Core.Path.{_≡_, refl, sym, ap, _∙_, subst}
 use Prim.Native.Nat.{ℕ, _+_, _-_, _%_, _<_, _≤_, min}
 use native.Mathlib.Omega.{arith}
 use borrow.Author.Tests.{ltb-true, ltb-false, lt-ltb, le-ltb, le-leb, lt-leb}
@@ -14,6 +14,7 @@ use Rattle.cpu.specs.Instruction.{stepOf}
 use Rattle.cpu.specs.Machine.{Machine, machineOf, portsOf, effectOf, afterStep, machineStep}
 use Rattle.cpu.specs.Partition.{Parts, boundsOf, machineAt, offerOf, Settled, settled, settledOf}
 use Rattle.cpu.specs.Result.{Ports, Stepped}
+use Rattle.cpu.specs.StepLaws.{step-ends, Allowed, ending-allowed}
 use Rattle.cpu.specs.Times.{step-runs}
 use Rattle.cpu.specs.declared.core.Core.{Core}
 use Rattle.cpu.specs.declared.machine.Sizes.{Sizes}
@@ -103,43 +104,43 @@ stored b c s k l a v p false h m e =
     let x : length (take (b .input) l) ≤ a = omega arith in
     rw (e, h, set-out (take (b .input) l) a (v % 256) x)
 
-taken : (b : Bounds) (c : Cpu) (s : ℕ) (k : Positions) (l : List ℕ) → (t : Bool) → ltb (k .read) (b .filled) ≡ t → (m : Settled) → m ≡ settledOf Take b k l → machineAt b c s (m .positions) (m .bytes) ≡ effectOf (pendingOf Take) (machineAt b c s k l)
+taken : (b : Bounds) (c : Cpu) (s : ℕ) (k : Positions) (l : List ℕ) → ltb (k .read) (b .filled) ≡ true → (m : Settled) → m ≡ settledOf Take b k l → machineAt b c s (m .positions) (m .bytes) ≡ effectOf (pendingOf Take) (machineAt b c s k l)
 unfolding settledOf effectOf machineAt if_then_else_
-taken b c s k l true h m e = rw (e, h)
-taken b c s k l false h m e = rw (e, h)
+taken b c s k l h m e = rw (e, h)
 
-puts : (b : Bounds) (c : Cpu) (s : ℕ) (k : Positions) (l : List ℕ) (v : ℕ) → Parts b (length l) → (t : Bool) → ltb (b .output + k .written) (b .third) ≡ t → (m : Settled) → m ≡ settledOf (Put v) b k l → machineAt b c s (m .positions) (m .bytes) ≡ effectOf (pendingOf (Put v)) (machineAt b c s k l)
+put-out : (b : Bounds) (c : Cpu) (s : ℕ) (k : Positions) (l : List ℕ) (v : ℕ) → Parts b (length l) → ltb (b .output + k .written) (b .third) ≡ true → (m : Settled) → m ≡ settledOf (Put v) b k l → machineAt b c s (m .positions) (m .bytes) ≡ effectOf (pendingOf (Put v)) (machineAt b c s k l)
 unfolding settledOf effectOf machineAt if_then_else_
-puts b c s k l v p true h m e =
+put-out b c s k l v p h m e =
     let g : b .output + k .written < b .third = ltb-true _ _ h in
     let d = p .third in
     let o = p .output in
-    let f = full-law b k l p true h in
-    let u : leb (b .third) (b .output + k .written) ≡ false = lt-leb _ _ g in
     let x : b .input ≤ b .output + k .written = omega arith in
     let y : b .output + k .written ≡ b .input + ((b .output - b .input) + k .written) = omega arith in
     let z : b .output - b .input ≤ (b .output - b .input) + k .written = omega arith in
     let q : k .written < b .end - b .output = omega arith in
-    let i = b .output + k .written in
     let one = take-set-le (b .input) l (b .output + k .written) (v % 256) x in
     let two : drop (b .input) (set l (b .output + k .written) (v % 256)) ≡ set (drop (b .input) l) ((b .output - b .input) + k .written) (v % 256) =
     ap (λ (j : ℕ). drop (b .input) (set l j (v % 256))) y ∙ drop-set-add (b .input) l ((b .output - b .input) + k .written) (v % 256) in
     let three = take-set-le (b .output - b .input) (drop (b .input) l) ((b .output - b .input) + k .written) (v % 256) z in
     let four = drop-set-add (b .output) l (k .written) (v % 256) in
     let five = take-set-lt (b .end - b .output) (drop (b .output) l) (k .written) (v % 256) q in
-    rw (e, h, sym f ∙ u, one, two, three, four, five)
-puts b c s k l v p false h m e =
-    let f = full-law b k l p false h in
-    let g : b .third ≤ b .output + k .written = ltb-false _ _ h in
-    let u : leb (b .third) (b .output + k .written) ≡ true = le-leb _ _ g in
-    rw (e, h, sym f ∙ u)
+    rw (e, h, one, two, three, four, five)
 
-pub settle-law : (x : Pending) (b : Bounds) (c : Cpu) (s : ℕ) (k : Positions) (l : List ℕ) → Parts b (length l) → (m : Settled) → m ≡ settledOf x b k l → machineAt b c s (m .positions) (m .bytes) ≡ effectOf (pendingOf x) (machineAt b c s k l)
-unfolding settledOf effectOf
-settle-law Nothing b c s k l p m e = rw (e)
-settle-law (Store a v) b c s k l p m e = stored b c s k l a v p _ refl m e
-settle-law Take b c s k l p m e = taken b c s k l _ refl m e
-settle-law (Put v) b c s k l p m e = puts b c s k l v p _ refl m e
+room : (b : Bounds) (k : Positions) (l : List ℕ) → Parts b (length l) → leb (length (take (b .end - b .output) (drop (b .output) l))) (k .written) ≡ false → (t : Bool) → ltb (b .output + k .written) (b .third) ≡ t → ltb (b .output + k .written) (b .third) ≡ true
+room b k l p f true h = h
+room b k l p f false h =
+    let i : b .third ≤ b .output + k .written = ltb-false _ _ h in
+    let g : leb (b .third) (b .output + k .written) ≡ true = le-leb _ _ i in
+    let x : true ≡ false = sym g ∙ full-law b k l p false h ∙ f in
+    let z : _≡_ {A = ℕ} 0 1 = cc in
+    absurd (omega arith)
+
+settle-law : (x : Pending) (b : Bounds) (c : Cpu) (s : ℕ) (k : Positions) (l : List ℕ) → Parts b (length l) → Allowed (portsOf (machineAt b c s k l)) (pendingOf x) → (m : Settled) → m ≡ settledOf x b k l → machineAt b c s (m .positions) (m .bytes) ≡ effectOf (pendingOf x) (machineAt b c s k l)
+unfolding settledOf effectOf machineAt
+settle-law Nothing b c s k l p g m e = rw (e)
+settle-law (Store a v) b c s k l p g m e = stored b c s k l a v p _ refl m e
+settle-law Take b c s k l p g m e = taken b c s k l g m e
+settle-law (Put v) b c s k l p g m e = put-out b c s k l v p (room b k l p g _ refl) m e
 
 -- the positions stay in range
 abbrev Low : Settled → Type 0
@@ -223,6 +224,10 @@ seen : (b : Bounds) (c : Cpu) (s : ℕ) (k : Positions) (l : List ℕ) → stepO
 unfolding machineAt
 seen b c s k l = refl
 
+allowed-at : (b : Bounds) (c c' : Cpu) (s s' : ℕ) (k : Positions) (l : List ℕ) (w : Next) → Allowed (portsOf (machineAt b c s k l)) (steppedOf w .effect) → Allowed (portsOf (machineAt b c' s' k l)) (pendingOf (w .effect))
+unfolding machineAt steppedOf
+allowed-at b c c' s s' k l w h = h
+
 pub status-at : (b : Bounds) (c : Cpu) (s : ℕ) (k : Positions) (l : List ℕ) → machineAt b c s k l .status ≡ s
 unfolding machineAt
 status-at b c s k l = refl
@@ -234,7 +239,9 @@ once b m s k l q e w g n v h =
     g
     ∙ ap (λ (x : List ℕ). stepOf (cpuOf m) x (offeredOf (offerOf b k) (take (b .second) l))) window
     ∙ ap (λ (x : Ports). stepOf (cpuOf m) (take (b .input) l) x) (ports-law b (cpuOf m) s k l q) in
-    settle-law (w .effect) b (cpuOf (w .core)) (w .status) k l q (settled n v) h
+    let ports = portsOf (machineAt b (cpuOf m) s k l) in
+    let allowed : Allowed ports (steppedOf w .effect) = subst (λ (t : Stepped). Allowed ports (t .effect)) (sym d) (ending-allowed (step-ends (cpuOf m) (take (b .input) l) ports)) in
+    settle-law (w .effect) b (cpuOf (w .core)) (w .status) k l q (allowed-at b (cpuOf m) (cpuOf (w .core)) s (w .status) k l w allowed) (settled n v) h
     ∙ same b (cpuOf m) s k l w
     ∙ ap (λ (t : Stepped). afterStep t (machineAt b (cpuOf m) s k l)) (d ∙ seen b (cpuOf m) s k l)
     ∙ sym (step-runs (machineAt b (cpuOf m) s k l) (status-at b (cpuOf m) s k l ∙ e))

@@ -33,9 +33,9 @@ unfoldable pub withAddress : {A : Type 0} → Located → A → (Address → A) 
 withAddress (At a) stop go = go a
 withAddress Outside stop go = stop
 
--- fifteen bits of two bytes, high first, the top bit ignored
+-- fifteen bits of two bytes, high first: the top bit is ignored
 abbrev pub addressOf : ℕ → ℕ → Address
-addressOf high low = record { 0 = high % 128 * 256 + low }
+addressOf high low = record { 0 = (high * 256 + low) % 32768 }
 
 -- a pointer is two bytes, the second within the first one's page
 unfoldable pub pointerOf : List ℕ → Address → Located

@@ -14,6 +14,8 @@ pub mod Machine
 -- Laws that the checker has shown, for the layers above.
 pub mod Cases
 pub mod Times
+pub mod StepLaws
+pub mod MachineLaws
 -- What private code is held to. No definition above mentions these two.
 pub mod Core
 pub mod Partition

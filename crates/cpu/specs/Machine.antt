@@ -62,13 +62,12 @@ takenFrom m = record { cpu = m .cpu; status = m .status; window = m .window; inp
 abbrev pub putInto : ℕ → Machine → Machine
 putInto v m = record { cpu = m .cpu; status = m .status; window = m .window; input = m .input; output = set (m .output) (m .written) v; filled = m .filled; read = m .read; written = m .written + 1 }
 
--- the step's effect. REDD takes only what is unread and WRTD puts only where there is room, so the tests here
--- change nothing that a step does; with them each position stays a number of its size for every state
+-- the step's effect
 unfoldable pub effectOf : Effect → Machine → Machine
 effectOf Nothing m = m
 effectOf (Store a v) m = storedOf a v m
-effectOf Take m = if ltb (m .read) (m .filled) then takenFrom m else m
-effectOf (Put v) m = if leb (length (m .output)) (m .written) then m else putInto v m
+effectOf Take m = takenFrom m
+effectOf (Put v) m = putInto v m
 
 abbrev pub afterStep : Stepped → Machine → Machine
 afterStep s m = effectOf (s .effect) (continuedOf s m)

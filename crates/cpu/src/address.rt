@@ -32,7 +32,7 @@ pub(crate) fn onward(a: Address, k: u8) -> Address
 pub(crate) fn joined(high: u8, low: u8) -> Address
     ensures { λ r. ⌜ r ≡ addressOf high low ⌝ }
 {
-    Address((high % 128) as u16 * 256 + low as u16)
+    Address(((high as u32 * 256 + low as u32) % 32768) as u16)
 }
 
 pub(crate) fn fetch(window: &[u8], a: Address) -> Fetched
