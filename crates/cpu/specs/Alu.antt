@@ -1,5 +1,5 @@
 -- Definitions that must be believed: sums, compares, tests, rotates and decimal adjust on bytes, and the PSL that each leaves
--- (document 01, "The machine"; manual, "Instructions").
+-- (document 01, "The machine"; manual, "Program Status Word" and "Detailed Processor Instructions").
 use Prim.Native.Nat.{ℕ, _+_, _*_, _/_, _%_, _-_}
 use lib.Dec.{eqb, ltb}
 use lib.Bits.{bitAnd, bitOr, bitXor}

@@ -1,5 +1,5 @@
--- Definitions that must be believed: branches, calls and returns (document 01, "The machine"; manual, "Branch Instructions" and
--- "Subroutine Branch and Return Instructions").
+-- Definitions that must be believed: branches, calls and returns (document 01, "The machine"; manual, "Subroutine Linkage" and
+-- "Detailed Processor Instructions").
 use mathlib.Core.Bool.{Bool, true, false, not}
 use mathlib.Core.List.{List}
 use Prim.Native.Nat.{ℕ, _+_, _*_, _/_, _%_}

@@ -76,6 +76,7 @@ afterStep s m = effectOf (s .effect) (continuedOf s m)
 unfoldable pub machineStep : Machine → Machine
 machineStep m = if eqb (m .status) 1 then afterStep (stepOf (m .cpu) (m .window) (portsOf m)) m else m
 
-unfoldable pub times : ℕ → (Machine → Machine) → Machine → Machine
-times zero f m = m
-times (suc n) f m = f (times n f m)
+-- n times f
+unfoldable pub times : {A : Type 0} → ℕ → (A → A) → A → A
+times zero f x = x
+times (suc n) f x = f (times n f x)

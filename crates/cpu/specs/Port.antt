@@ -1,4 +1,4 @@
--- Definitions that must be believed: the data port (document 01, "The machine"; manual, "Input/Output Instructions").
+-- Definitions that must be believed: the data port (document 01, "The machine"; manual, "Input/Output Facilities").
 use Prim.Native.Nat.{ℕ}
 use Rattle.cpu.specs.Alu.{loadedOf}
 use Rattle.cpu.specs.Choice.{if_then_else_}

@@ -1,4 +1,4 @@
--- Definitions that must be believed: Sense, and instructions with a mask in their second byte (manual, "Program Status Instructions").
+-- Definitions that must be believed: Sense, and instructions with a mask in their second byte (manual, "Program Status Word").
 use mathlib.Core.Bool.{Bool}
 use mathlib.Core.List.{List}
 use Prim.Native.Nat.{ℕ, _+_, _%_}

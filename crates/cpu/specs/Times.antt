@@ -17,23 +17,24 @@ pub step-rests : (m : Machine) → (m .status ≡ 1 → ⊥) → machineStep m �
 unfolding machineStep if_then_else_
 step-rests m e = rw (ne-eqb _ _ e)
 
-pub times-zero : (m : Machine) → times 0 machineStep m ≡ m
-unfolding times
-times-zero m = refl
+module _ {A : Type 0} (f : A → A) where
+  pub times-zero : (x : A) → times 0 f x ≡ x
+  unfolding times
+  times-zero x = refl
 
-pub times-one : (m : Machine) → times 1 machineStep m ≡ machineStep m
-unfolding times
-times-one m = refl
+  pub times-one : (x : A) → times 1 f x ≡ f x
+  unfolding times
+  times-one x = refl
 
-pub times-suc : (n : ℕ) (m : Machine) → times (n + 1) machineStep m ≡ machineStep (times n machineStep m)
-unfolding times
-times-suc n m = rw (add-one)
+  pub times-suc : (n : ℕ) (x : A) → times (n + 1) f x ≡ f (times n f x)
+  unfolding times
+  times-suc n x = rw (add-one)
 
--- so many steps, and then so many more
-pub times-add : (j k : ℕ) (m : Machine) → times (j + k) machineStep m ≡ times j machineStep (times k machineStep m)
-unfolding times
-times-add zero k m = let h : 0 + k ≡ k = omega arith in rw h
-times-add (suc j) k m = let h : suc j + k ≡ suc (j + k) = omega arith in rw (h, times-add j k m)
+  -- so many, and then so many more
+  pub times-add : (j k : ℕ) (x : A) → times (j + k) f x ≡ times j f (times k f x)
+  unfolding times
+  times-add zero k x = let h : 0 + k ≡ k = omega arith in rw h
+  times-add (suc j) k x = let h : suc j + k ≡ suc (j + k) = omega arith in rw (h, times-add j k x)
 
 -- a stopped machine stays
 pub times-rests : (n : ℕ) (m : Machine) → (m .status ≡ 1 → ⊥) → times n machineStep m ≡ m

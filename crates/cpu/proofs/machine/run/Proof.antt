@@ -82,7 +82,7 @@ loop-again c = let here = c .before .before .before .before .before .before .bef
       low .1,
       once (start .result) (here .core) (here .status) (here .k) (here .partition) q (c .before .before .before .before .before .before .before .if1 .left) (went .result) (went .ensures) (put .result) _ (put .ensures)
           ∙ ap machineStep (here .inv .4)
-          ∙ sym (times-suc (here .i) _),
+          ∙ sym (times-suc machineStep (here .i) _),
       beyond-law (went .result .effect) (start .result) (here .k) (here .partition) _ q (settled (put .result) _) (put .ensures) ∙ here .inv .5,
     )
 
@@ -118,7 +118,7 @@ returns c = let here = c .before .before .before .before .loop in
     let h : (args .steps - here .i) + here .i ≡ args .steps = omega arith in
     here .inv .4
     ∙ sym (times-rests (args .steps - here .i) _ (λ e. w .1 .taken (sym (status-at _ _ _ _ _) ∙ ap (λ (m : Machine). m .status) (here .inv .4) ∙ e)))
-    ∙ sym (times-add (args .steps - here .i) (here .i) before)
+    ∙ sym (times-add machineStep (args .steps - here .i) (here .i) before)
     ∙ ap (λ (n : ℕ). times n machineStep before) h)
     (c .before .before .before .loop-test .came) in
     let first : before ≡ machineOf (args .sizes) (args .state) (args .partition .now) =

@@ -1,3 +1,4 @@
+use Rattle.cpu.specs.Machine.{machineStep}
 use Rattle.cpu.specs.Times.{times-one}
 use borrow.Author.Needs.{needs}
 use mathlib.Core.Path.{_∙_}
@@ -14,7 +15,7 @@ same-length c = search needs
 
 -- src/machine.rt:61:1
 returns : tie.Need-returns
-returns c = (c .before .before .run .ensures .0 ∙ times-one _, c .before .before .run .ensures .1)
+returns c = (c .before .before .run .ensures .0 ∙ times-one machineStep _, c .before .before .run .ensures .1)
 
 pub step-spec : {M : Type 1} → statement M
 step-spec = tie.close (tie.spec run-requires same-length returns)
