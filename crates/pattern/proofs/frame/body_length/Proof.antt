@@ -1,0 +1,15 @@
+-- `pattern::frame::body_length`: the two-byte number at 2.
+use borrow.Author.Needs.{needs}
+use Rattle.pattern.specs.Frame.{bodyLength}
+use Rattle.pattern.proofs.frame.body_length.Statement.{statement}
+use Rattle.pattern.proofs.frame.body_length.Tie as tie
+
+word-requires : tie.Need-word-requires
+word-requires c κs = search needs
+
+returns : tie.Need-returns
+unfolding bodyLength
+returns c = c .word .ensures
+
+pub body-length-spec : {M : Type 1} → statement M
+body-length-spec = tie.close (tie.spec word-requires returns)

@@ -1,0 +1,29 @@
+-- `pattern::frame::is_framed`: each test is the one that the definition makes.
+use borrow.Author.Needs.{needs}
+use Rattle.pattern.specs.Frame.{framed}
+use Rattle.pattern.proofs.frame.is_framed.Statement.{statement}
+use Rattle.pattern.proofs.frame.is_framed.Tie as tie
+
+byte-requires : tie.Need-byte-requires
+byte-requires c κs = search needs
+
+byte-requires-2 : tie.Need-byte-requires-2
+byte-requires-2 c κs = search needs
+
+body-length-requires : tie.Need-body-length-requires
+body-length-requires c κs = search needs
+
+cast-result : tie.Need-cast-result
+cast-result c = search needs
+
+add-result : tie.Need-add-result
+add-result c = search needs
+
+returns : tie.Need-returns
+unfolding framed
+returns c = rw (c .before .before .byte .ensures, c .before .byte2 .ensures, c .body-length .ensures)
+
+pub is-framed-spec : {M : Type 1} → statement M
+is-framed-spec =
+    tie.close
+    (tie.spec byte-requires byte-requires-2 body-length-requires cast-result add-result returns)

@@ -1,0 +1,25 @@
+-- `pattern::reader::end`: each return is the first condition that holds.
+use borrow.Author.Tests.{lt-ltb, le-ltb}
+use borrow.Author.Needs.{needs}
+use Rattle.pattern.specs.Refusals.{unless}
+use Rattle.pattern.specs.Reader.{endConditions}
+use Rattle.pattern.proofs.reader.end.Statement.{statement}
+use Rattle.pattern.proofs.reader.end.Tie as tie
+
+is-fixed-requires : tie.Need-is-fixed-requires
+is-fixed-requires c κs = search needs
+
+returns : tie.Need-returns
+unfolding unless endConditions
+returns c = simp (← c .before .is-fixed .ensures, c .if1 .taken)
+
+returns-2 : tie.Need-returns-2
+unfolding unless endConditions
+returns-2 c = simp (← c .before .before .is-fixed .ensures, c .before .if1 .left, lt-ltb _ _ (c .if2 .taken))
+
+returns-3 : tie.Need-returns-3
+unfolding unless endConditions
+returns-3 c = simp (← c .before .before .is-fixed .ensures, c .before .if1 .left, le-ltb _ _ (c .if2 .left))
+
+pub end-spec : {M : Type 1} → statement M
+end-spec = tie.close (tie.spec is-fixed-requires returns returns-2 returns-3)

@@ -1,0 +1,125 @@
+-- Definitions that must be believed: reading a pattern file (document 01, "Pattern file, form 1" and "Turned back, by place").
+use Prim.Native.Nat.{ℕ}
+use mathlib.Core.Bool.{not}
+use mathlib.Core.List.{List, [], _∷_}
+use mathlib.Core.Path.{_≡_}
+use lib.ListN.{length, getD}
+use lib.Dec.{ltb, eqb}
+use Rattle.slices.specs.Slices.{wordAt}
+use Rattle.pattern.specs.Refusals.{Condition, _gives_, unless}
+use Rattle.pattern.specs.Values.{inRange, partitionSize}
+use Rattle.pattern.specs.Frame.{bodyLength, bodyOf, afterRecord, framed, fixed}
+use Rattle.pattern.specs.Image.{padded, endsInZero}
+use Rattle.pattern.specs.declared.values.Values.{Values}
+use Rattle.pattern.specs.declared.reader.Answer.{Answer}
+use Rattle.pattern.specs.declared.reader.Answer.the-variants.{Accepted, Refused}
+
+-- the file from each record on: `PV` stands at its front
+abbrev pub fromPartition : List ℕ → List ℕ
+fromPartition s = afterRecord s
+
+abbrev pub fromCode : List ℕ → List ℕ
+fromCode s = afterRecord (fromPartition s)
+
+abbrev pub fromInput : List ℕ → List ℕ
+fromInput s = afterRecord (fromCode s)
+
+abbrev pub fromEnd : List ℕ → List ℕ
+fromEnd s = afterRecord (fromInput s)
+
+-- the form that `PV` at the front of s names
+abbrev pub formIn : List ℕ → ℕ
+formIn s = getD s 4 0
+
+-- the values in the body of `PB` at the front of s, in a file of that form
+unfoldable pub valuesIn : ℕ → List ℕ → Values
+valuesIn form s =
+    record {
+      window = wordAt s 4;
+      input = wordAt s 6;
+      output = wordAt s 8;
+      start = wordAt s 10;
+      quantum = getD s 12 0;
+    }
+
+-- before `PB` is read there are no values
+abbrev pub noValues : Values
+noValues = record { window = 0; input = 0; output = 0; start = 0; quantum = 0 }
+
+-- what refuses each record, at the front of s, in order
+-- `PV` (50h 56h), 2 bytes: form 1, board 1
+unfoldable pub versionConditions : List ℕ → List Condition
+versionConditions s =
+    not (fixed 0x56 2 s) gives 6
+    ∷ not (eqb (formIn s) 1) gives 7
+    ∷ not (eqb (getD s 5 0) 1) gives 8
+    ∷ []
+
+-- `PB` (50h 42h), 9 bytes: the values
+unfoldable pub partitionConditions : ℕ → List ℕ → List Condition
+partitionConditions form s =
+    not (fixed 0x42 (partitionSize form) s) gives 6
+    ∷ not (inRange (valuesIn form s)) gives 9
+    ∷ []
+
+-- `PC` (50h 43h): at most the window size; empty, or its last byte not zero
+unfoldable pub codeConditions : Values → List ℕ → List Condition
+codeConditions v s =
+    not (framed 0x43 s) gives 6
+    ∷ ltb (v .window) (bodyLength s) gives 10
+    ∷ endsInZero (bodyOf s) gives 10
+    ∷ []
+
+-- `PI` (50h 49h): at most the input capacity
+unfoldable pub inputConditions : Values → List ℕ → List Condition
+inputConditions v s =
+    not (framed 0x49 s) gives 6
+    ∷ ltb (v .input) (bodyLength s) gives 11
+    ∷ []
+
+-- `PE` (50h 45h), 0 bytes, and the file ends
+unfoldable pub endConditions : List ℕ → List Condition
+endConditions s =
+    not (fixed 0x45 0 s) gives 6
+    ∷ ltb 4 (length s) gives 6
+    ∷ []
+
+-- the values in a file
+abbrev pub valuesOf : List ℕ → Values
+valuesOf s = valuesIn (formIn s) (fromPartition s)
+
+-- what reading a file answers: a record's frame is checked, then its body, then the next record
+unfoldable pub readOf : List ℕ → Answer
+readOf s =
+    unless Refused (versionConditions s)
+    (unless Refused (partitionConditions (formIn s) (fromPartition s))
+    (unless Refused (codeConditions (valuesOf s) (fromCode s))
+    (unless Refused (inputConditions (valuesOf s) (fromInput s))
+    (unless Refused (endConditions (fromEnd s)) (Accepted (valuesOf s))))))
+
+-- the number of a refusal, 0 where there is none
+abbrev pub refusalOf : Answer → ℕ
+refusalOf (Accepted v) = 0
+refusalOf (Refused n) = n
+
+-- that body if the file is accepted, else an empty one
+abbrev pub ifAccepted : Answer → List ℕ → List ℕ
+ifAccepted (Accepted v) body = body
+ifAccepted (Refused n) body = []
+
+-- the bodies of `PC` and of `PI`
+unfoldable pub codeOf : List ℕ → List ℕ
+codeOf s = ifAccepted (readOf s) (bodyOf (fromCode s))
+
+unfoldable pub inputOf : List ℕ → List ℕ
+inputOf s = ifAccepted (readOf s) (bodyOf (fromInput s))
+
+-- the window of an accepted file: the code from address 0, the rest zero
+abbrev pub imageOf : List ℕ → List ℕ
+imageOf s = padded (valuesOf s .window) (codeOf s)
+
+-- s is accepted, and it is a file of the pattern of those values, window and first input
+pub record IsFile (s : List ℕ) (v : Values) (image input : List ℕ) : Type 0 where
+  pub values : readOf s ≡ Accepted v
+  pub window : imageOf s ≡ image
+  pub first : inputOf s ≡ input

@@ -1,0 +1,63 @@
+-- Definitions that must be believed: writing a pattern file (document 01, "Pattern file, form 1" and "Turned back, by place").
+use Prim.Native.Nat.{ℕ}
+use mathlib.Core.Bool.{not}
+use mathlib.Core.List.{List, [], _∷_, _++_}
+use lib.ListN.{length, drop}
+use lib.Dec.{ltb, eqb}
+use Rattle.pattern.specs.Refusals.{Condition, _gives_, unless}
+use Rattle.pattern.specs.Values.{inRange, formOf}
+use Rattle.pattern.specs.Frame.{high, low, recordOf}
+use Rattle.pattern.specs.Image.{trim}
+use Rattle.pattern.specs.declared.values.Values.{Values}
+use Rattle.pattern.specs.declared.writer.Written.{Written}
+use Rattle.pattern.specs.declared.writer.Written.the-variants.{Length, Failed}
+
+-- the body of `PV`: form and board
+abbrev pub versionBody : Values → List ℕ
+versionBody v = formOf v ∷ 1 ∷ []
+
+-- the body of `PB`
+abbrev pub partitionBody : Values → List ℕ
+partitionBody v =
+    high (v .window) ∷ low (v .window) ∷ high (v .input) ∷ low (v .input) ∷ high (v .output) ∷ low (v .output) ∷ high (v .start) ∷ low (v .start)
+    ∷ v .quantum ∷ []
+
+-- the five records, with these bodies of `PC` and `PI`
+unfoldable pub recordsOf : Values → List ℕ → List ℕ → List ℕ
+recordsOf v code input =
+    recordOf 0x56 (versionBody v)
+    ++ (recordOf 0x42 (partitionBody v)
+    ++ (recordOf 0x43 code
+    ++ (recordOf 0x49 input
+    ++ recordOf 0x45 [])))
+
+-- the file of the pattern of those values, window and first input
+abbrev pub fileOf : Values → List ℕ → List ℕ → List ℕ
+fileOf v image input = recordsOf v (trim image) input
+
+-- what refuses the writing into a buffer of that length, in order
+unfoldable pub writeConditions : Values → List ℕ → List ℕ → ℕ → List Condition
+writeConditions v image input room =
+    not (inRange v) gives 9
+    ∷ not (eqb (length image) (v .window)) gives 9
+    ∷ ltb (v .input) (length input) gives 11
+    ∷ ltb room (length (fileOf v image input)) gives 16
+    ∷ []
+
+-- what writing answers: the file's length, or the refusal
+unfoldable pub writeOf : Values → List ℕ → List ℕ → ℕ → Written
+writeOf v image input room = unless Failed (writeConditions v image input room) (Length (length (fileOf v image input)))
+
+-- the number of a refusal, 0 where there is none
+abbrev pub failureOf : Written → ℕ
+failureOf (Length n) = 0
+failureOf (Failed n) = n
+
+-- the buffer after that answer: the file at its front and the rest left, or all of it left
+abbrev pub leftBy : Written → List ℕ → List ℕ → List ℕ
+leftBy (Length n) file d = file ++ drop n d
+leftBy (Failed n) file d = d
+
+-- what the buffer d holds after the writing
+abbrev pub bufferOf : Values → List ℕ → List ℕ → List ℕ → List ℕ
+bufferOf v image input d = leftBy (writeOf v image input (length d)) (fileOf v image input) d

@@ -1,0 +1,168 @@
+-- Laws that the checker has shown: what a copy or a fill keeps, and what it puts in place. Callers cite these, and not the definitions' text.
+use Prim.Native.Nat.{ℕ, zero, suc, _+_, _-_, _≤_, _<_}
+use mathlib.Core.Bool.{Bool, true, false, cond}
+use mathlib.Core.Path.{_≡_, refl, sym, ap, subst⁻¹, _∙_}
+use mathlib.Core.List.{List, [], _∷_, _++_, append-assoc}
+use native.Mathlib.Nat.{add-assoc, add-zero, zero-add, suc-add}
+use native.Mathlib.Omega.{arith}
+use lib.ListN.{length, getD, take, drop, replicate, length-append, length-take, length-drop, length-replicate, getD-replicate}
+use lib.Seq.{take-at, drop-at, take-nil, drop-nil, drop-drop, take-take, take-append-le, drop-append-le, take-append-seam, getD-take, getD-drop, length-take-le}
+use lib.Dec.{leb}
+use borrow.Author.Tests.{leb-true, le-leb, lt-leb}
+use Rattle.slices.specs.Slices.{Bytes, partOf, copied, filled}
+
+-- a part is the end of a front
+pub part-front : (s : List ℕ) (at n : ℕ) → partOf s at n ≡ drop at (take (at + n) s)
+part-front s zero n = rw zero-add
+part-front [] (suc at) n = take-nil n ∙ sym (ap (drop (suc at)) (take-nil (suc at + n)) ∙ drop-nil (suc at))
+part-front (x ∷ xs) (suc at) n = part-front xs at n ∙ sym (ap (λ (k : ℕ). drop (suc at) (take k (x ∷ xs))) (suc-add at n))
+
+-- and it is whole where the list reaches that far
+pub part-length : (s : List ℕ) (at n : ℕ) → at + n ≤ length s → length (partOf s at n) ≡ n
+part-length s at n h = length-take-le n (drop at s) (simp length-drop (omega arith))
+
+-- what is left of bytes is bytes
+pub bytes-drop : (n : ℕ) (s : List ℕ) → Bytes s → Bytes (drop n s)
+unfolding Bytes
+bytes-drop n s h i = subst⁻¹ (λ (x : ℕ). x < 256) (getD-drop n s i 0) (h (n + i))
+
+-- with room the source stands in the list, and without it the list is left
+pub copied-whole : (d : List ℕ) (at : ℕ) (s : List ℕ) → at + length s ≤ length d → copied d at s ≡ take at d ++ s ++ drop (at + length s) d
+unfolding copied
+copied-whole d at s h = simp (le-leb (at + length s) (length d) h)
+
+pub copied-left : (d : List ℕ) (at : ℕ) (s : List ℕ) → length d < at + length s → copied d at s ≡ d
+unfolding copied
+copied-left d at s h = simp (lt-leb (at + length s) (length d) h)
+
+-- what holds in both of these cases holds of a copy
+copied-either : (P : List ℕ → Type 0) (d : List ℕ) (at : ℕ) (s : List ℕ)
+    → (at + length s ≤ length d → P (take at d ++ s ++ drop (at + length s) d)) → P d → P (copied d at s)
+unfolding copied
+copied-either P d at s whole left = go (leb (at + length s) (length d)) refl
+  where
+    go : (b : Bool) → leb (at + length s) (length d) ≡ b → P (cond b (take at d ++ s ++ drop (at + length s) d) d)
+    go true e = whole (leb-true (at + length s) (length d) e)
+    go false e = left
+
+module _ (d : List ℕ) (at : ℕ) (s : List ℕ) where
+  -- the length is kept
+  pub copied-length : length (copied d at s) ≡ length d
+  copied-length =
+      copied-either (λ (l : List ℕ). length l ≡ length d) d at s
+      (λ h. simp (length-append, length-take, length-drop) (omega arith))
+      refl
+
+  -- what stands before the place is kept
+  pub copied-before : (n : ℕ) → n ≤ at → take n (copied d at s) ≡ take n d
+  copied-before n h =
+      copied-either (λ (l : List ℕ). take n l ≡ take n d) d at s
+      (λ fits.
+      let e : length (take at d) ≡ at = length-take-le at d (omega arith) in
+      let k : n ≤ length (take at d) = omega arith in
+      ap (take n) (append-assoc (take at d) s (drop (at + length s) d))
+      ∙ take-append-le n (take at d) (s ++ drop (at + length s) d) k
+      ∙ take-take n at d h)
+      refl
+
+  -- what stands behind the source is kept
+  pub copied-after : (n : ℕ) → at + length s ≤ n → drop n (copied d at s) ≡ drop n d
+  copied-after n h =
+      copied-either (λ (l : List ℕ). drop n l ≡ drop n d) d at s
+      (λ fits.
+      let p : List ℕ = take at d ++ s in
+      let q : List ℕ = drop (at + length s) d in
+      let e : length p ≡ at + length s = simp (length-append, length-take) (omega arith) in
+      let k : n ≡ at + length s + (n - (at + length s)) = omega arith in
+      ap (λ (i : ℕ). drop i (p ++ q)) k
+      ∙ sym (drop-drop (n - (at + length s)) (at + length s) (p ++ q))
+      ∙ ap (drop (n - (at + length s))) (drop-at p q (at + length s) e)
+      ∙ drop-drop (n - (at + length s)) (at + length s) d
+      ∙ sym (ap (λ (i : ℕ). drop i d) k))
+      refl
+
+  -- from the place on stands the source
+  copied-from : at + length s ≤ length d → drop at (copied d at s) ≡ s ++ drop (at + length s) d
+  copied-from h =
+      let e : length (take at d) ≡ at = length-take-le at d (omega arith) in
+      ap (drop at) (copied-whole d at s h ∙ append-assoc (take at d) s (drop (at + length s) d))
+      ∙ drop-at (take at d) (s ++ drop (at + length s) d) at e
+
+  -- the stretch is the source, and a part of it a part of the source
+  pub copied-inside : at + length s ≤ length d → partOf (copied d at s) at (length s) ≡ s
+  copied-inside h = ap (take (length s)) (copied-from h) ∙ take-append-seam s (drop (at + length s) d)
+
+  pub part-inside-copy : at + length s ≤ length d → (k n : ℕ) → k + n ≤ length s → partOf (copied d at s) (at + k) n ≡ partOf s k n
+  part-inside-copy h k n inside =
+      let few : n ≤ length (drop k s) = simp length-drop (omega arith) in
+      ap (take n) (
+      sym (drop-drop k at (copied d at s)) ∙ ap (drop k) (copied-from h) ∙ drop-append-le k s (drop (at + length s) d) (omega arith)
+      )
+      ∙ take-append-le n (drop k s) (drop (at + length s) d) few
+
+  -- a part that ends before the place, or begins behind the source, is kept
+  pub part-before-copy : (from n : ℕ) → from + n ≤ at → partOf (copied d at s) from n ≡ partOf d from n
+  part-before-copy from n h = part-front (copied d at s) from n ∙ ap (drop from) (copied-before (from + n) h) ∙ sym (part-front d from n)
+
+  pub part-after-copy : (from n : ℕ) → at + length s ≤ from → partOf (copied d at s) from n ≡ partOf d from n
+  part-after-copy from n h = ap (take n) (copied-after from h)
+
+  -- the same three, byte by byte
+  pub byte-before-copy : (i : ℕ) → i < at → getD (copied d at s) i 0 ≡ getD d i 0
+  byte-before-copy i h =
+      sym (getD-take at (copied d at s) i 0 h)
+      ∙ ap (λ (l : List ℕ). getD l i 0) (copied-before at (omega arith))
+      ∙ getD-take at d i 0 h
+
+  pub byte-after-copy : (i : ℕ) → at + length s ≤ i → getD (copied d at s) i 0 ≡ getD d i 0
+  byte-after-copy i h =
+      rw add-zero at (sym (getD-drop i (copied d at s) 0 0) ∙ ap (λ (l : List ℕ). getD l 0 0) (copied-after i h) ∙ getD-drop i d 0 0)
+
+  pub byte-inside-copy : at + length s ≤ length d → (i : ℕ) → i < length s → getD (copied d at s) (at + i) 0 ≡ getD s i 0
+  byte-inside-copy fits i h =
+      sym (getD-drop at (copied d at s) i 0)
+      ∙ sym (getD-take (length s) (drop at (copied d at s)) i 0 h)
+      ∙ ap (λ (l : List ℕ). getD l i 0) (copied-inside fits)
+
+-- two copies, the second where the first ends, are one
+pub copied-next : (d e f : List ℕ) (at n : ℕ) (s t : List ℕ) → e ≡ copied d at s → f ≡ copied e n t → n ≡ at + length s
+    → at + length s + length t ≤ length d → f ≡ copied d at (s ++ t)
+copied-next d e f at n s t first second place h =
+    let fits : at + length s ≤ length d = omega arith in
+    let kept : length e ≡ length d = ap length first ∙ copied-length d at s in
+    let k : length (take at d ++ s) ≡ at + length s = simp (length-append, length-take) (omega arith) in
+    let both : at + length (s ++ t) ≤ length d = simp length-append (omega arith) in
+    second
+    ∙ ap (λ (i : ℕ). copied e i t) place
+    ∙ copied-whole e (at + length s) t (omega arith)
+    ∙ ap (λ (l : List ℕ). l ++ t ++ drop (at + length s + length t) e)
+    (ap (take (at + length s)) (first ∙ copied-whole d at s fits) ∙ take-at (take at d ++ s) (drop (at + length s) d) (at + length s) k)
+    ∙ ap (λ (l : List ℕ). take at d ++ s ++ t ++ l)
+    (ap (drop (at + length s + length t)) first ∙ copied-after d at s (at + length s + length t) (omega arith))
+    ∙ sym (copied-whole d at (s ++ t) both ∙ simp (append-assoc, length-append, add-assoc))
+
+-- a source at the very front
+pub copied-front : (d s : List ℕ) → length s ≤ length d → copied d 0 s ≡ s ++ drop (length s) d
+copied-front d s h = copied-whole d 0 s (omega arith) ∙ rw zero-add
+
+-- a fill is a copy, so copied-length, copied-before, part-before-copy and byte-before-copy hold of it as they stand; the others, by its n
+module _ (d : List ℕ) (at n b : ℕ) where
+  fill-size : length (replicate n b) ≡ n
+  fill-size = length-replicate n b
+
+  pub filled-after : (m : ℕ) → at + n ≤ m → drop m (filled d at n b) ≡ drop m d
+  filled-after m h = copied-after d at (replicate n b) m (omega (arith, fill-size))
+
+  pub filled-inside : at + n ≤ length d → partOf (filled d at n b) at n ≡ replicate n b
+  filled-inside h =
+      sym (ap (partOf (filled d at n b) at) fill-size) ∙ copied-inside d at (replicate n b) (omega (arith, fill-size))
+
+  pub part-after-fill : (from m : ℕ) → at + n ≤ from → partOf (filled d at n b) from m ≡ partOf d from m
+  part-after-fill from m h = part-after-copy d at (replicate n b) from m (omega (arith, fill-size))
+
+  pub byte-after-fill : (i : ℕ) → at + n ≤ i → getD (filled d at n b) i 0 ≡ getD d i 0
+  byte-after-fill i h = byte-after-copy d at (replicate n b) i (omega (arith, fill-size))
+
+  pub byte-inside-fill : at + n ≤ length d → (i : ℕ) → i < n → getD (filled d at n b) (at + i) 0 ≡ b
+  byte-inside-fill fits i h =
+      byte-inside-copy d at (replicate n b) (omega (arith, fill-size)) i (omega (arith, fill-size)) ∙ getD-replicate n i b 0 h
