@@ -1,5 +1,5 @@
 // The Signetics 2650, and one such machine over its own bytes: window, input buffer, output buffer.
-// It knows no memory, no table and no neighbour. A caller needs `step`, `run` and the three structs.
+// It knows no memory, no table and no neighbour. A caller needs `step`, `run` and the structs that they take.
 mod address;
 mod alu;
 mod branch;
@@ -14,6 +14,7 @@ mod result;
 mod state;
 mod status;
 
+pub use address::Address;
 pub use machine::Sizes;
 pub use machine::State;
 pub use machine::run;

@@ -1,0 +1,13 @@
+-- `supervisor::location::input_at`: by what `located` ensures.
+use borrow.Author.Needs.{needs}
+use Rattle.supervisor.proofs.location.input_at.Statement.{statement}
+use Rattle.supervisor.proofs.location.input_at.Tie as tie
+
+located-requires : tie.Need-located-requires
+located-requires c κs = search needs
+
+returns : tie.Need-returns
+returns c = c .located .ensures
+
+pub input-at-spec : {M : Type 1} → statement M
+input-at-spec = tie.close (tie.spec located-requires returns)

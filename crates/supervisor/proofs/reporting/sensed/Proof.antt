@@ -1,0 +1,17 @@
+-- `supervisor::reporting::sensed`: by its two branches.
+use borrow.Author.Needs.{needs}
+use borrow.Author.Tests.{lt-ltb, le-ltb}
+use Rattle.supervisor.proofs.reporting.sensed.Statement.{statement}
+use Rattle.supervisor.proofs.reporting.sensed.Tie as tie
+
+add-result : tie.Need-add-result
+add-result c = search needs
+
+returns : tie.Need-returns
+returns c = rw (lt-ltb _ _ (c .before .if1 .taken))
+
+returns-2 : tie.Need-returns-2
+returns-2 c = rw (le-ltb _ _ (c .if1 .left))
+
+pub sensed-spec : {M : Type 1} → statement M
+sensed-spec = tie.close (tie.spec add-result returns returns-2)

@@ -1,0 +1,32 @@
+-- `supervisor::sound::slot_sound`: in the shape of its definition.
+use borrow.Author.Needs.{needs}
+use Rattle.supervisor.specs.Table.{slotSound}
+use Rattle.supervisor.proofs.sound.slot_sound.Statement.{statement}
+use Rattle.supervisor.proofs.sound.slot_sound.Tie as tie
+
+zero-partition-requires : tie.Need-zero-partition-requires
+zero-partition-requires c κs = search needs
+
+zero-state-requires : tie.Need-zero-state-requires
+zero-state-requires c κs = search needs
+
+partition-sound-requires : tie.Need-partition-sound-requires
+partition-sound-requires c κs = search needs
+
+state-sound-requires : tie.Need-state-sound-requires
+state-sound-requires c κs = search needs
+
+returns : tie.Need-returns
+unfolding slotSound
+returns c =
+    rw (c .state-sound .ensures, c .before .partition-sound .ensures, c .before .before .zero-state .ensures, c .before .before .before .zero-partition .ensures)
+
+pub slot-sound-spec : {M : Type 1} → statement M
+slot-sound-spec =
+    tie.close
+    (tie.spec
+    zero-partition-requires
+    zero-state-requires
+    partition-sound-requires
+    state-sound-requires
+    returns)

@@ -1,0 +1,13 @@
+-- `supervisor::status::resumed`: by its two branches.
+use borrow.Author.Tests.{eq-eqb, ne-eqb}
+use Rattle.supervisor.proofs.status.resumed.Statement.{statement}
+use Rattle.supervisor.proofs.status.resumed.Tie as tie
+
+returns : tie.Need-returns
+returns c = rw (eq-eqb _ _ (c .if1 .taken))
+
+returns-2 : tie.Need-returns-2
+returns-2 c = rw (ne-eqb _ _ (c .if1 .left))
+
+pub resumed-spec : {M : Type 1} → statement M
+resumed-spec = tie.close (tie.spec returns returns-2)

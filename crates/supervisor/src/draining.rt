@@ -1,0 +1,81 @@
+// Draining: the written bytes to the front of a lent buffer.
+use crate::location::output_at;
+use crate::refusals::slot_refusal;
+use crate::status::resumed;
+use crate::table::Slot;
+use crate::table::Table;
+use cpu::State;
+ghost use mathlib.Core.Path.{_≡_};
+ghost use lib.ListN.{length};
+ghost use Rattle.supervisor.specs.Events as events;
+ghost use Rattle.supervisor.specs.Events.{outcome, outcomeOf};
+ghost use Rattle.supervisor.specs.Operations.{system, drainRefusal, drainedState, drainedCount, drainedBuffer};
+
+// The refusal, 0 for none, how many bytes were drained, and the table.
+pub struct Drained {
+    pub refusal: u8,
+    pub count: usize,
+    pub table: Table,
+}
+
+fn drain_refusal(table: Table, memory: &[u8], slot: usize, room: usize) -> u8
+    ensures { λ r. ⌜ r ≡ drainRefusal (system table (now (memory .entry))) slot room ⌝ }
+{
+    let number = slot_refusal(table, memory, slot);
+    if number != 0 {
+        return number;
+    }
+    let s = table.slots[slot];
+    let state = s.state;
+    if room < state.written as usize {
+        return 16;
+    }
+    0
+}
+
+// The output buffer is written from its front again; a machine that found it full runs again.
+fn emptied(s: State) -> State
+    ensures { λ r. ⌜ r ≡ drainedState s ⌝ }
+{
+    let cpu = s.cpu;
+    State {
+        cpu,
+        status: resumed(s.status, 4),
+        filled: s.filled,
+        read: s.read,
+        written: 0,
+    }
+}
+
+// Document 01's collect. The memory's bytes are left, and so is the buffer behind the drained bytes.
+pub fn drain(table: Table, memory: &[u8], slot: usize, buffer: &mut [u8]) -> Drained
+    ensures { λ r. ⌜ outcome (r .refusal) (r .table) (now (memory .entry)) ≡ outcomeOf (events.drain slot (length (now (buffer .entry)))) (system table (now (memory .entry))) ⌝ }
+    ensures { λ r. ⌜ r .count ≡ drainedCount (system table (now (memory .entry))) slot (length (now (buffer .entry))) ⌝ }
+    ensures { λ r. ⌜ now (buffer .exit) ≡ drainedBuffer (system table (now (memory .entry))) slot (now (buffer .entry)) ⌝ }
+{
+    let number = drain_refusal(table, memory, slot, buffer.len());
+    if number != 0 {
+        return Drained {
+            refusal: number,
+            count: 0,
+            table,
+        };
+    }
+    let s = table.slots[slot];
+    let partition = s.partition;
+    let old = s.state;
+    let count = old.written as usize;
+    slices::copy(
+        buffer,
+        0,
+        slices::part(memory, output_at(partition).0, count),
+    );
+    let state = emptied(old);
+    let mut next = table;
+    next.slots[slot] = Slot { partition, state };
+    Drained {
+        refusal: 0,
+        count,
+        table: next,
+    }
+}

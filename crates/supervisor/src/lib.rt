@@ -1,0 +1,27 @@
+// Eight slots over one memory: loading, unloading, feeding, draining, running and reporting.
+mod draining;
+mod feeding;
+mod loading;
+mod location;
+mod refusals;
+mod reported;
+mod reporting;
+mod running;
+mod sound;
+mod status;
+mod table;
+mod unloading;
+
+pub use draining::Drained;
+pub use draining::drain;
+pub use feeding::feed;
+pub use loading::load;
+pub use location::Location;
+pub use reported::Report;
+pub use reporting::report;
+pub use running::run;
+pub use table::Answer;
+pub use table::Partition;
+pub use table::Slot;
+pub use table::Table;
+pub use unloading::unload;

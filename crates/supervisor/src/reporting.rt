@@ -1,0 +1,67 @@
+// Reporting on a slot.
+use crate::reported::Report;
+use crate::sound::is_sound;
+use crate::table::Table;
+use cpu::State;
+ghost use mathlib.Core.Path.{_≡_};
+ghost use Prim.Native.Nat.{_<_};
+ghost use Rattle.supervisor.specs.Operations.{reportRefusal, sensedPsu, reportOf};
+
+fn report_refusal(table: Table, slot: usize) -> u8
+    ensures { λ r. ⌜ r ≡ reportRefusal table slot ⌝ }
+{
+    if !is_sound(table) {
+        return 1;
+    }
+    if Table::SLOTS <= slot {
+        return 3;
+    }
+    let s = table.slots[slot];
+    let state = s.state;
+    if state.status == 0 {
+        return 5;
+    }
+    0
+}
+
+// PSU with Sense, which is never stored: the stored one is below 128.
+fn sensed(s: State) -> u8
+    requires { ⌜ s .cpu .psu < 128 ⌝ }
+    ensures { λ r. ⌜ r ≡ sensedPsu s ⌝ }
+{
+    let cpu = s.cpu;
+    if s.read < s.filled {
+        cpu.psu + 128
+    } else {
+        cpu.psu
+    }
+}
+
+// Document 01's report. It takes no memory.
+pub fn report(table: Table, slot: usize) -> Report
+    ensures { λ r. ⌜ r ≡ reportOf table slot ⌝ }
+{
+    let refusal = report_refusal(table, slot);
+    if refusal != 0 {
+        return Report {
+            refusal,
+            status: 0,
+            counter: 0,
+            registers: [0; 7],
+            psu: 0,
+            psl: 0,
+        };
+    }
+    let s = table.slots[slot];
+    let state = s.state;
+    let cpu = state.cpu;
+    let registers = cpu.registers;
+    Report {
+        refusal: 0,
+        status: state.status,
+        counter: cpu.counter,
+        registers,
+        psu: sensed(state),
+        psl: cpu.psl,
+    }
+}

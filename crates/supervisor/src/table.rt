@@ -1,0 +1,108 @@
+// The table and its parts, by value; a new table.
+use crate::sound::is_within;
+use cpu::Cpu;
+use cpu::State;
+ghost use mathlib.Core.Path.{_≡_};
+ghost use Rattle.supervisor.specs.Table.{bytesIn, endOf};
+ghost use Rattle.supervisor.specs.Operations.{emptySlot, tableOf, newRefusal, newOf};
+
+// What stays of a slot from load to unload (document 01's bay): where its bytes start in memory, how many are window, input
+// and output, and how many steps it takes in a round (document 01's stint).
+pub struct Partition {
+    pub base: u32,
+    pub window: u16,
+    pub input: u16,
+    pub output: u16,
+    pub quantum: u8,
+}
+
+impl Partition {
+    // How many bytes it has.
+    pub(crate) fn bytes(self) -> usize
+        ensures { λ r. ⌜ r ≡ bytesIn self ⌝ }
+    {
+        self.window as usize + self.input as usize + self.output as usize
+    }
+
+    // The place behind its last byte.
+    pub(crate) fn end(self) -> usize
+        ensures { λ r. ⌜ r ≡ endOf self ⌝ }
+    {
+        self.base as usize + self.bytes()
+    }
+}
+
+// Document 01's station: its partition, and what runs in it.
+pub struct Slot {
+    pub partition: Partition,
+    pub state: State,
+}
+
+impl Slot {
+    pub(crate) fn empty() -> Slot
+        ensures { λ s. ⌜ s ≡ emptySlot ⌝ }
+    {
+        let partition = Partition {
+            base: 0,
+            window: 0,
+            input: 0,
+            output: 0,
+            quantum: 0,
+        };
+        let cpu = Cpu {
+            counter: 0,
+            registers: [0; 7],
+            psu: 0,
+            psl: 0,
+            returns: [0; 8],
+        };
+        let state = State {
+            cpu,
+            status: 0,
+            filled: 0,
+            read: 0,
+            written: 0,
+        };
+        Slot { partition, state }
+    }
+}
+
+// Document 01's record: the length of the memory, and eight slots.
+pub struct Table {
+    pub size: u32,
+    pub slots: [Slot; 8],
+}
+
+// The refusal, 0 for none, and the table: the given one where a call is refused.
+pub struct Answer {
+    pub refusal: u8,
+    pub table: Table,
+}
+
+impl Table {
+    // How many slots there are, and the length of the longest memory.
+    pub const SLOTS: usize = 8;
+
+    pub const LONGEST: usize = 65536;
+
+    fn of_size(size: u32) -> Table
+        ensures { λ t. ⌜ t ≡ tableOf size ⌝ }
+    {
+        let empty = Slot::empty();
+        let slots = [empty; 8];
+        Table { size, slots }
+    }
+
+    // Document 01's fresh record, for a memory of that length, which it does not touch.
+    pub fn new(length: usize) -> Answer
+        ensures { λ r. ⌜ r .refusal ≡ newRefusal length ⌝ }
+        ensures { λ r. ⌜ r .table ≡ newOf length ⌝ }
+    {
+        if !is_within(length, Table::LONGEST) {
+            let table = Table::of_size(0);
+            return Answer { refusal: 2, table };
+        }
+        let table = Table::of_size(length as u32);
+        Answer { refusal: 0, table }
+    }
+}
