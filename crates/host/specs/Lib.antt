@@ -1,0 +1,7 @@
+-- Definitions that must be believed, in reading order.
+pub mod Encoding
+pub mod Run
+-- Laws that the checker has shown.
+pub mod RoundTrip
+-- What private code is held to. No definition above mentions it.
+pub mod Stores

@@ -1,0 +1,29 @@
+ghost use mathlib.Core.Path.{_≡_};
+ghost use Prim.Native.Nat.{_*_};
+ghost use Rattle.cpu.specs.Machine.{beyond, machineOf, machineStep, times};
+use cpu::Sizes;
+use cpu::State;
+
+// So many rounds of a quantum each, until the machine stops; its state stays in a local from one to the next.
+pub(crate) fn run(
+    state: State,
+    partition: &mut [u8],
+    sizes: Sizes,
+    quantum: u64,
+    rounds: u64,
+) -> State
+    ensures { λ s. ⌜ machineOf sizes s (now (partition .exit)) ≡ times (rounds * quantum) machineStep (machineOf sizes state (now (partition .entry))) ⌝ }
+    ensures { λ s. ⌜ beyond sizes (now (partition .exit)) ≡ beyond sizes (now (partition .entry)) ⌝ }
+{
+    let mut s = state;
+    let mut i: u64 = 0;
+    while i < rounds {
+        if s.status != 1 {
+            break;
+        }
+        let next = cpu::run(s, partition, sizes, quantum);
+        s = next;
+        i += 1;
+    }
+    s
+}
