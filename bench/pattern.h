@@ -1,0 +1,19 @@
+/* A pattern file, form 1, as far as a test needs it. */
+#ifndef PATTERN_H
+#define PATTERN_H
+#include "twin.h"
+
+typedef struct {
+    uint8_t file[36895 + 1];
+    size_t length;
+    sizes size;
+    uint16_t start;
+    const uint8_t *code, *input;
+    uint16_t code_length, input_length;
+} pattern;
+
+/* Answers 0 if the file can't be read or its records are not where they should be. */
+int pattern_read(const char *path, pattern *p);
+/* Puts the pattern into a twin of its sizes, fresh, at its start. */
+void pattern_load(const pattern *p, twin *t);
+#endif

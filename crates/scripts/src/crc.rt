@@ -1,0 +1,26 @@
+// The CRC-32 of zlib.
+use slices::byte;
+
+fn shifted(crc: u32) -> u32 {
+    if crc % 2 == 1 {
+        (crc >> 1) ^ 3988292384
+    } else {
+        crc >> 1
+    }
+}
+
+fn with_byte(crc: u32, b: u8) -> u32 {
+    let mixed = crc ^ (b as u32);
+    let four = shifted(shifted(shifted(shifted(mixed))));
+    shifted(shifted(shifted(shifted(four))))
+}
+
+pub(crate) fn crc32(s: &[u8]) -> u32 {
+    let mut crc: u32 = 4294967295;
+    let mut i: usize = 0;
+    while i < s.len() {
+        crc = with_byte(crc, byte(s, i));
+        i += 1;
+    }
+    crc ^ 4294967295
+}

@@ -1,0 +1,188 @@
+// The fields of a slot in the scripts' order: compared, and set by hand.
+use crate::entry::slot;
+use crate::entry::value8;
+use crate::entry::value16;
+use crate::entry::value32;
+use cpu::Cpu;
+use cpu::State;
+use slices::rest;
+use slices::word;
+use supervisor::Partition;
+use supervisor::Report;
+use supervisor::Slot;
+use supervisor::Table;
+
+fn same_registers(r: [u8; 7], want: &[u8]) -> bool {
+    (r[0] as u16 == word(want, 0))
+        & (r[1] as u16 == word(want, 2))
+        & (r[2] as u16 == word(want, 4))
+        & (r[3] as u16 == word(want, 6))
+        & (r[4] as u16 == word(want, 8))
+        & (r[5] as u16 == word(want, 10))
+        & (r[6] as u16 == word(want, 12))
+}
+
+fn same_returns(r: [u16; 8], want: &[u8]) -> bool {
+    (r[0] == word(want, 0))
+        & (r[1] == word(want, 2))
+        & (r[2] == word(want, 4))
+        & (r[3] == word(want, 6))
+        & (r[4] == word(want, 8))
+        & (r[5] == word(want, 10))
+        & (r[6] == word(want, 12))
+        & (r[7] == word(want, 14))
+}
+
+fn same_partition(p: Partition, want: &[u8]) -> bool {
+    (p.base == word(want, 0) as u32)
+        & (p.window == word(want, 2))
+        & (p.input == word(want, 4))
+        & (p.output == word(want, 6))
+        & (p.quantum as u16 == word(want, 8))
+}
+
+fn same_slot(s: Slot, want: &[u8]) -> bool {
+    let state = s.state;
+    let cpu = state.cpu;
+    let partition = s.partition;
+    let registers = cpu.registers;
+    let returns = cpu.returns;
+    same_partition(partition, want)
+        & (state.status as u16 == word(want, 10))
+        & (cpu.counter == word(want, 12))
+        & (cpu.psu as u16 == word(want, 14))
+        & (cpu.psl as u16 == word(want, 16))
+        & same_registers(registers, rest(want, 18))
+        & same_returns(returns, rest(want, 32))
+        & (state.filled == word(want, 48))
+        & (state.read == word(want, 50))
+        & (state.written == word(want, 52))
+}
+
+pub(crate) fn same_slots(t: Table, want: &[u8]) -> bool {
+    let s = t.slots;
+    same_slot(s[0], want)
+        & same_slot(s[1], rest(want, 54))
+        & same_slot(s[2], rest(want, 108))
+        & same_slot(s[3], rest(want, 162))
+        & same_slot(s[4], rest(want, 216))
+        & same_slot(s[5], rest(want, 270))
+        & same_slot(s[6], rest(want, 324))
+        & same_slot(s[7], rest(want, 378))
+}
+
+pub(crate) fn same_report(r: Report, want: &[u8]) -> bool {
+    let registers = r.registers;
+    (r.status as u16 == word(want, 0))
+        & (r.counter == word(want, 2))
+        & (r.psu as u16 == word(want, 4))
+        & (r.psl as u16 == word(want, 6))
+        & same_registers(registers, rest(want, 8))
+}
+
+fn poked_partition(p: Partition, field: u16, entry: &[u8]) -> Partition {
+    let mut next = p;
+    match field {
+        0 => {
+            next.base = value32(entry);
+        }
+        1 => {
+            next.window = value16(entry);
+        }
+        2 => {
+            next.input = value16(entry);
+        }
+        3 => {
+            next.output = value16(entry);
+        }
+        4 => {
+            next.quantum = value8(entry);
+        }
+        _ => {}
+    }
+    next
+}
+
+// The array with place i set, if there is one.
+fn with_register(registers: [u8; 7], i: usize, v: u8) -> [u8; 7] {
+    let mut next = registers;
+    if i < 7 {
+        next[i] = v;
+    }
+    next
+}
+
+fn with_return(returns: [u16; 8], i: usize, v: u16) -> [u16; 8] {
+    let mut next = returns;
+    if i < 8 {
+        next[i] = v;
+    }
+    next
+}
+
+fn poked_cpu(c: Cpu, field: u16, entry: &[u8]) -> Cpu {
+    let mut next = c;
+    if field == 6 {
+        next.counter = value16(entry);
+    }
+    if field == 7 {
+        next.psu = value8(entry);
+    }
+    if field == 8 {
+        next.psl = value8(entry);
+    }
+    if 9 <= field {
+        let old = c.registers;
+        let registers = with_register(old, (field - 9) as usize, value8(entry));
+        next.registers = registers;
+    }
+    if 16 <= field {
+        let old = c.returns;
+        let returns = with_return(old, (field - 16) as usize, value16(entry));
+        next.returns = returns;
+    }
+    next
+}
+
+fn poked_state(s: State, field: u16, entry: &[u8]) -> State {
+    let old = s.cpu;
+    let cpu = poked_cpu(old, field, entry);
+    let status = if field == 5 { value8(entry) } else { s.status };
+    let filled = if field == 24 {
+        value16(entry)
+    } else {
+        s.filled
+    };
+    let read = if field == 25 { value16(entry) } else { s.read };
+    let written = if field == 26 {
+        value16(entry)
+    } else {
+        s.written
+    };
+    State {
+        cpu,
+        status,
+        filled,
+        read,
+        written,
+    }
+}
+
+// The table with the entry's field set; the slot's number is below 8, but for the length of the memory.
+pub(crate) fn poked(t: Table, entry: &[u8]) -> Table {
+    let field = word(entry, 12);
+    let k = slot(entry);
+    let mut next = t;
+    if k < 8 {
+        let s = t.slots[k];
+        let p = s.partition;
+        let partition = poked_partition(p, field, entry);
+        let old = s.state;
+        let state = poked_state(old, field, entry);
+        next.slots[k] = Slot { partition, state };
+    }
+    if field == 27 {
+        next.size = value32(entry);
+    }
+    next
+}
