@@ -12,7 +12,7 @@ import tempfile
 from pathlib import Path
 
 RUNS = 5
-STEPS = 10_000_000
+STEPS = {255: 50_000_000, 1: 20_000_000}
 APART = 8192
 
 
@@ -24,7 +24,7 @@ def given(pattern, slots, quantum):
     """Standard input for both programs, and how many instructions it asks for."""
     file = bytearray(pattern)
     file[18] = quantum
-    rounds = STEPS // (slots * quantum)
+    rounds = STEPS[quantum] // (slots * quantum)
     runs = max(1, rounds // 50_000)
     each = min(rounds // runs, 65535)
     return bytes([slots]) + two(APART) + two(runs) + two(each) + bytes(file), slots * quantum * runs * each
@@ -56,14 +56,15 @@ def compare(product, reference, pattern, slots, quantum):
                 best[program] = min(time, best.get(program, time))
             if wrote[product] != wrote[reference]:
                 sys.exit("differs:\n" + wrote[product].decode() + wrote[reference].decode())
-    running = wrote[product].count(b"refusal 0 status 1 ") == slots
-    ratio = best[reference] / best[product]
-    return f"{ratio:.2f} ({steps / best[product] / 1e6:3.0f})" if running else "stops"
+    if wrote[product].count(b"refusal 0 status 1 ") != slots:
+        return "stops early"
+    return f"{best[reference] / best[product]:.2f} ({steps / best[product] / 1e6:3.0f})"
 
 
 def main(product, reference, *patterns):
-    cases = [(quantum, slots) for quantum in (255, 1) for slots in (1, 2, 8)]
-    print("pattern  " + "".join(f"{quantum:>5} x {slots}     " for quantum, slots in cases))
+    cases = [(quantum, slots) for quantum in STEPS for slots in (1, 2, 8)]
+    print("product / reference (million instructions a second of the product), at a quantum x running slots")
+    print(" " * 9 + "".join(f"{f'{quantum} x {slots}':>12}  " for quantum, slots in cases))
     for path in map(Path, patterns):
         row = [compare(product, reference, path.read_bytes(), slots, quantum) for quantum, slots in cases]
         print(f"{path.stem:8} " + "".join(f"{cell:>12}  " for cell in row), flush=True)
