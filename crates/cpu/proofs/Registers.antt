@@ -71,15 +71,34 @@ exchange zero (suc (suc r)) x p q n = absurd (omega arith)
 exchange (suc zero) (suc (suc r)) x p q n = absurd (omega arith)
 exchange (suc (suc r)) rs' x p q n = absurd (omega arith)
 
-triples : (a m n : ℕ) → a < 256 → m < 16777216 → n < 16777216 → bytesOf (a + m * 256 + n * 4294967296) ≡ (a ∷ m % 256 ∷ m / 256 % 256 ∷ m / 65536 % 256 ∷ n % 256 ∷ n / 256 % 256 ∷ n / 65536 % 256 ∷ [])
+triples : (a m n : ℕ) → a < 256 → m < 16777216 → bytesOf (a + m * 256 + n * 4294967296) ≡ (a ∷ m % 256 ∷ m / 256 % 256 ∷ m / 65536 % 256 ∷ n % 256 ∷ n / 256 % 256 ∷ n / 65536 % 256 ∷ [])
 unfolding bytesOf
-triples a m n p q r = seven-law (omega arith) (omega arith) (omega arith) (omega arith) (omega arith) (omega arith) (omega arith)
+triples a m n p q = seven-law (omega arith) (omega arith) (omega arith) (omega arith) (omega arith) (omega arith) (omega arith)
+
+-- with any byte above the seven
+pub exchanged-below : (x u : ℕ) → bytesOf (x % 256 + x / 4294967296 % 16777216 * 256 + (x / 256 % 16777216 + u * 16777216) * 4294967296) ≡ bankedOf 1 (bytesOf x)
+unfolding bytesOf bankedOf if_then_else_
+exchanged-below x u =
+    triples (x % 256) (x / 4294967296 % 16777216) (x / 256 % 16777216 + u * 16777216) (omega arith) (omega arith)
+    ∙ seven-law (omega arith) (omega arith) (omega arith) (omega arith) (omega arith) (omega arith) (omega arith)
 
 pub exchanged-law : (x : ℕ) → bytesOf (x % 256 + x / 4294967296 % 16777216 * 256 + x / 256 % 16777216 * 4294967296) ≡ bankedOf 1 (bytesOf x)
-unfolding bytesOf bankedOf if_then_else_
 exchanged-law x =
-    triples (x % 256) (x / 4294967296 % 16777216) (x / 256 % 16777216) (omega arith) (omega arith) (omega arith)
-    ∙ seven-law (omega arith) (omega arith) (omega arith) (omega arith) (omega arith) (omega arith) (omega arith)
+    let e : x / 256 % 16777216 ≡ x / 256 % 16777216 + 0 * 16777216 = omega arith in
+    ap (λ (n : ℕ). bytesOf (x % 256 + x / 4294967296 % 16777216 * 256 + n * 4294967296)) e ∙ exchanged-below x 0
+
+top : (a m n u : ℕ) → a < 256 → m < 16777216 → n < 16777216 → u < 256 → byteAt (a + m * 256 + (n + u * 16777216) * 4294967296) 7 ≡ u
+top a m n u p q r l = omega arith
+
+pub exchanged-top : (x u : ℕ) → u < 256 → byteAt (x % 256 + x / 4294967296 % 16777216 * 256 + (x / 256 % 16777216 + u * 16777216) * 4294967296) 7 ≡ u
+exchanged-top x u l = top (x % 256) (x / 4294967296 % 16777216) (x / 256 % 16777216) u (omega arith) (omega arith) (omega arith) l
+
+pub same-below : (x u : ℕ) → bytesOf (x % 72057594037927936 + u * 72057594037927936) ≡ bytesOf x
+unfolding bytesOf
+same-below x u = seven-law (omega arith) (omega arith) (omega arith) (omega arith) (omega arith) (omega arith) (omega arith)
+
+pub same-top : (x u : ℕ) → u < 256 → byteAt (x % 72057594037927936 + u * 72057594037927936) 7 ≡ u
+same-top x u l = omega arith
 
 -- return addresses: four in each word
 pub get-low : (x y i : ℕ) → i < 4 → quarterAt x i ≡ getD (quartersOf x y) i 0

@@ -19,7 +19,7 @@ pub struct Core {
 }
 
 fn byte_at(x: u64, i: u64) -> u8
-    requires { ⌜ i < 7 ⌝ }
+    requires { ⌜ i < 8 ⌝ }
     ensures { λ v. ⌜ v ≡ byteAt x i ⌝ }
 {
     ((x >> (8 * i)) % 256) as u8
@@ -224,22 +224,26 @@ pub(crate) fn pack(m: Cpu) -> Core
     with_psl(z, m.psl)
 }
 
-// The register word with bank 0 first.
-fn ordered(m: Core) -> u64
+// The registers with bank 0 first and PSU above them, as they stand side by side in `Cpu`: one word, so that the compiler stores it
+// at once. Each bank order adds PSU in a sum of its own: from a sum after both it would part the word again, and store bytes.
+fn kept(m: Core) -> u64
     ensures { λ x. ⌜ bytesOf x ≡ bankedOf (bitRS (pslOf (cpuOf m))) (bytesOf (m .registers)) ⌝ }
+    ensures { λ x. ⌜ byteAt x 7 ≡ psuOf (cpuOf m) ⌝ }
 {
     let p = psl(m);
+    let u = psu(m) as u64;
+    let x = m.registers;
     if p / 16 % 2 == 0 {
-        m.registers
+        x % 72057594037927936 + u * 72057594037927936
     } else {
-        exchanged(m.registers)
+        x % 256 + x / 4294967296 % 16777216 * 256 + (x / 256 % 16777216 + u * 16777216) * 4294967296
     }
 }
 
 pub(crate) fn unpack(m: Core) -> Cpu
     ensures { λ c. ⌜ c ≡ cpuOf m ⌝ }
 {
-    let x = ordered(m);
+    let x = kept(m);
     let y = m.low;
     let z = m.high;
     let a = counter(m);
@@ -265,7 +269,7 @@ pub(crate) fn unpack(m: Core) -> Cpu
     Cpu {
         counter: a.0,
         registers,
-        psu: psu(m),
+        psu: byte_at(x, 7),
         psl: psl(m),
         returns,
     }
