@@ -79,6 +79,13 @@ fn answered(world: World, answer: Answer, entry: &[u8]) -> Done {
     }
 }
 
+// Whether a drain answered as the entry wants, and left its buffer so.
+fn same_drained(refusal: u8, count: usize, buffer: &[u8], entry: &[u8]) -> bool {
+    (refusal as u16 == wanted(entry))
+        & (count == word(entry, 12) as usize)
+        & check::same(front(buffer, number(entry)), bytes(entry))
+}
+
 // Into the front of a buffer, which is compared whole.
 fn drained_into(world: World, memory: &[u8], entry: &[u8], buffer: &mut [u8]) -> Done {
     let n = number(entry);
@@ -89,13 +96,33 @@ fn drained_into(world: World, memory: &[u8], entry: &[u8], buffer: &mut [u8]) ->
     let answer = supervisor::drain(before, memory, slot(entry), &mut buffer[..n]);
     let refusal = answer.refusal;
     let table = answer.table;
-    let same = (refusal as u16 == wanted(entry))
-        & (answer.count == word(entry, 12) as usize)
-        & check::same(front(buffer, n), bytes(entry));
     Done {
         world: with_table(world, table),
-        same,
+        same: same_drained(refusal, answer.count, buffer, entry),
         refusal,
+    }
+}
+
+// The same over one slot, lent.
+fn lent_into(world: World, memory: &[u8], entry: &[u8], buffer: &mut [u8]) -> Done {
+    let n = number(entry);
+    if buffer.len() < n {
+        return unanswered(world, false);
+    }
+    let k = slot(entry);
+    if Table::SLOTS <= k {
+        return unanswered(world, false);
+    }
+    let mut table = world.table;
+    let before = table.slots[k];
+    let answer = lend::drain_loan(before, memory, &mut buffer[..n]);
+    let taken = answer.taken;
+    let after = answer.slot;
+    table.slots[k] = after;
+    Done {
+        world: with_table(world, table),
+        same: same_drained(taken.refusal, taken.count, buffer, entry),
+        refusal: taken.refusal,
     }
 }
 
@@ -105,27 +132,9 @@ fn drained(world: World, memory: &[u8], entry: &[u8]) -> Done {
     drained_into(world, memory, entry, &mut buffer)
 }
 
-// The same, over a table that has this slot alone.
-fn drained_alone(world: World, memory: &[u8], entry: &[u8]) -> Done {
-    let k = slot(entry);
-    if 8 <= k {
-        return unanswered(world, false);
-    }
-    let before = world.table;
-    let fresh = Table::new(0);
-    let mut alone = fresh.table;
-    alone.size = world.lent;
-    alone.slots[k] = before.slots[k];
-    let done = drained(with_table(world, alone), memory, entry);
-    let left = done.world;
-    let after = left.table;
-    let mut table = before;
-    table.slots[k] = after.slots[k];
-    Done {
-        world: with_table(world, table),
-        same: done.same,
-        refusal: done.refusal,
-    }
+fn drained_lent(world: World, memory: &[u8], entry: &[u8]) -> Done {
+    let mut buffer = [238u8; 16];
+    lent_into(world, memory, entry, &mut buffer)
 }
 
 fn reported(world: World, entry: &[u8]) -> Done {
@@ -163,7 +172,7 @@ fn called(world: World, memory: &mut [u8], entry: &[u8]) -> Done {
             answered(world, answer, entry)
         }
         10 => reported(world, entry),
-        12 => drained_alone(world, memory, entry),
+        12 => drained_lent(world, memory, entry),
         _ => unanswered(world, false),
     }
 }

@@ -1,0 +1,108 @@
+-- Laws that the checker has shown: a slot that is the only one of a table.
+use mathlib.Core.Bool.{Bool, true, false, cond, not, _&&_, _||_}
+use mathlib.Core.List.{List, [], _∷_, _++_}
+use mathlib.Core.Logic.{_≢_}
+use mathlib.Core.Path.{_≡_, refl, sym, ap, _∙_}
+use Prim.Native.Nat.{ℕ, zero, suc, _+_, _≤_, _<_}
+use native.Mathlib.Omega.{arith}
+use borrow.Author.Tests.{eq-eqb, eqb-true, le-leb}
+use lib.Dec.{eqb, ltb, leb}
+use lib.ListN.{length, drop}
+use Rattle.pattern.specs.Refusals.{_gives_, unless}
+use Rattle.pattern.specs.Values.{within}
+use Rattle.supervisor.specs.Events.{Outcome, drain, refusal, effect, afterCall, outcome, outcomeOf}
+use Rattle.supervisor.specs.Operations.{System, system, emptySlot, tableOf, newRefusal, newOf, refusalBy, drainRefusal, drainedState, afterDrain, writtenBytes, drainedCount, drainedBuffer}
+use Rattle.supervisor.specs.Table.{allBelow, endOf, slotAt, withSlot, zeroPartition, zeroState, allZero, slotSound, apart, clearOf, sound}
+use Rattle.supervisor.specs.declared.table.Partition.{Partition}
+use Rattle.supervisor.specs.declared.table.Slot.{Slot}
+use Rattle.supervisor.specs.declared.table.Table.{Table}
+use Rattle.supervisor.specs.Tests.{or-left, or-right}
+use Rattle.lend.specs.Lent.{lent, slotRefusal, writtenIn, drainSlotOf}
+
+-- a table of seven empty slots behind this one
+abbrev pub alone : ℕ → Slot → Table
+alone size s = withSlot (tableOf size) 0 s
+
+empty-sound : (size : ℕ) → slotSound size emptySlot ≡ true
+unfolding slotSound zeroPartition zeroState allZero allBelow emptySlot
+empty-sound size = refl
+
+and-true : (b : Bool) → (b && true) ≡ b
+and-true true = refl
+and-true false = refl
+
+-- an empty partition meets none, on either side
+apart-left : (p : Partition) → apart (emptySlot .partition) p ≡ true
+unfolding apart emptySlot
+apart-left p = or-left (leb 0 (p .base)) _ (le-leb 0 (p .base) (omega arith))
+
+apart-right : (p : Partition) → apart p (emptySlot .partition) ≡ true
+unfolding apart emptySlot
+apart-right p = or-right (leb (endOf p) 0) _ (le-leb 0 (p .base) (omega arith))
+
+-- it is sound exactly if its size is in range and the slot is sound by itself
+pub alone-sound : (size : ℕ) (s : Slot) → sound (alone size s) ≡ (within size 65536 && slotSound size s)
+unfolding sound withSlot slotAt allBelow clearOf
+alone-sound size s = simp (empty-sound size, apart-left, apart-right, and-true)
+
+-- so draining there is refused as draining the slot is
+pub alone-refusal : (s : Slot) (memory : List ℕ) (room : ℕ) → drainRefusal (system (alone (length memory) s) memory) 0 room ≡ slotRefusal s (length memory) room
+unfolding drainRefusal slotRefusal refusalBy unless withSlot slotAt
+alone-refusal s memory room = rw (alone-sound (length memory) s, eq-eqb (length memory) _ refl)
+
+-- a memory whose length is out of range refuses the slot by 1
+pub not-new : (s : Slot) (memory buffer : List ℕ) → newRefusal (length memory) ≢ 0 → lent (record { refusal = 1; count = 0 }) s buffer ≡ drainSlotOf s memory buffer
+unfolding newRefusal refusalBy unless drainSlotOf slotRefusal
+not-new s memory buffer h = by-test (within (length memory) 65536) refl
+  where
+    by-test : (b : Bool) → within (length memory) 65536 ≡ b → lent (record { refusal = 1; count = 0 }) s buffer ≡ drainSlotOf s memory buffer
+    by-test true e = absurd (h (rw e))
+    by-test false e = rw e
+
+pub new-table : (n : ℕ) → newRefusal n ≡ 0 → newOf n ≡ tableOf n
+unfolding newOf
+new-table n e = rw e
+
+-- what draining at slot 0 answers and leaves is what draining the slot does
+module _ (s : Slot) (memory buffer : List ℕ) where
+  abbrev pub here : System
+  here = system (alone (length memory) s) memory
+
+  abbrev pub there : Outcome
+  there = outcomeOf (drain 0 (length buffer)) here
+
+  by-test :
+      (t : ℕ) (b : Bool) → eqb t 0 ≡ b
+      → lent
+      (record { refusal = t; count = cond b (s .state .written) 0 })
+      (slotAt (cond b (afterDrain here 0) here .table) 0)
+      (cond b (writtenBytes here 0 ++ drop (s .state .written) buffer) buffer)
+      ≡ cond b
+      (lent
+      (record { refusal = 0; count = s .state .written })
+      (record { partition = s .partition; state = drainedState (s .state) })
+      (writtenIn s memory ++ drop (s .state .written) buffer))
+      (lent (record { refusal = t; count = 0 }) s buffer)
+  unfolding afterDrain writtenBytes writtenIn withSlot slotAt
+  by-test t true e = rw (eqb-true t 0 e)
+  by-test t false e = refl
+
+  pub alone-drained :
+      lent
+      (record { refusal = there .number; count = drainedCount here 0 (length buffer) })
+      (slotAt (there .after .table) 0)
+      (drainedBuffer here 0 buffer)
+      ≡ drainSlotOf s memory buffer
+  unfolding outcomeOf afterCall refusal effect drainedCount drainedBuffer drainSlotOf slotAt withSlot
+  alone-drained = rw (alone-refusal s memory (length buffer)) (by-test (slotRefusal s (length memory) (length buffer)) _ refl)
+
+-- the same for whoever knows the answers of the call and the table it was made with
+pub by-draining :
+    (s : Slot) (memory buffer : List ℕ) (t : Table) → t ≡ tableOf (length memory)
+    → (r n : ℕ) (t' : Table) (b : List ℕ)
+    → outcome r t' memory ≡ outcomeOf (drain 0 (length buffer)) (system (withSlot t 0 s) memory)
+    → n ≡ drainedCount (system (withSlot t 0 s) memory) 0 (length buffer)
+    → b ≡ drainedBuffer (system (withSlot t 0 s) memory) 0 buffer
+    → lent (record { refusal = r; count = n }) (slotAt t' 0) b ≡ drainSlotOf s memory buffer
+by-draining s memory buffer t e r n t' b h i j =
+    rw (ap (λ (o : Outcome). o .number) h, ap (λ (o : Outcome). o .after .table) h, i, j, e) (alone-drained s memory buffer)
