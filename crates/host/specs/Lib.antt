@@ -1,7 +1,9 @@
 -- Definitions that must be believed, in reading order.
 pub mod Encoding
 pub mod Run
+pub mod TableEncoding
 -- Laws that the checker has shown.
 pub mod RoundTrip
+pub mod TableRoundTrip
 -- What private code is held to. No definition above mentions it.
 pub mod Stores

@@ -8,7 +8,7 @@ use cpu::Cpu;
 use cpu::State;
 
 // The byte at a place, 0 past the end.
-fn byte(bytes: &[u8], at: usize) -> u8
+pub(crate) fn byte(bytes: &[u8], at: usize) -> u8
     ensures { λ v. ⌜ v ≡ getD (now (bytes .entry)) at 0 ⌝ }
 {
     if at < bytes.len() { bytes[at] } else { 0 }
@@ -20,7 +20,7 @@ fn joined(high: u8, low: u8) -> u16
     high as u16 * 256 + low as u16
 }
 
-fn number(bytes: &[u8], at: usize) -> u16
+pub(crate) fn number(bytes: &[u8], at: usize) -> u16
     requires { ⌜ at < 64 ⌝ }
     ensures { λ n. ⌜ n ≡ numberAt (now (bytes .entry)) at ⌝ }
 {

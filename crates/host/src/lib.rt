@@ -1,6 +1,7 @@
 // Entry points for a host in C: numbers and byte slices, each slice a pointer and then its length.
 mod encoding;
 mod rounds;
+mod table_encoding;
 
 ghost use mathlib.Core.Path.{_≡_};
 ghost use Prim.Native.Nat.{_*_};
