@@ -1,3 +1,4 @@
 -- Laws that only proofs need.
 pub mod Storing
 pub mod Tables
+pub mod Settling

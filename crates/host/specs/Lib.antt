@@ -2,6 +2,7 @@
 pub mod Encoding
 pub mod Run
 pub mod TableEncoding
+pub mod Calls
 -- Laws that the checker has shown.
 pub mod RoundTrip
 pub mod TableRoundTrip

@@ -1,8 +1,16 @@
 // Entry points for a host in C: numbers and byte slices, each slice a pointer and then its length.
+mod calls;
 mod encoding;
 mod rounds;
 mod table_encoding;
 
+pub use calls::pf_drain;
+pub use calls::pf_feed;
+pub use calls::pf_load;
+pub use calls::pf_new;
+pub use calls::pf_report;
+pub use calls::pf_run;
+pub use calls::pf_unload;
 ghost use mathlib.Core.Path.{_≡_};
 ghost use Prim.Native.Nat.{_*_};
 ghost use Rattle.host.specs.Run.{leftBy, machineRunOf, sizesOf};
