@@ -2,3 +2,4 @@
 pub mod Storing
 pub mod Tables
 pub mod Settling
+pub mod PatternFiling

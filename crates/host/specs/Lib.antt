@@ -3,8 +3,10 @@ pub mod Encoding
 pub mod Run
 pub mod TableEncoding
 pub mod Calls
+pub mod PatternFiles
 -- Laws that the checker has shown.
 pub mod RoundTrip
 pub mod TableRoundTrip
+pub mod PatternFileLaws
 -- What private code is held to. No definition above mentions it.
 pub mod Stores

@@ -1,6 +1,7 @@
 // Entry points for a host in C: numbers and byte slices, each slice a pointer and then its length.
 mod calls;
 mod encoding;
+mod pattern_files;
 mod rounds;
 mod table_encoding;
 
@@ -11,6 +12,10 @@ pub use calls::pf_new;
 pub use calls::pf_report;
 pub use calls::pf_run;
 pub use calls::pf_unload;
+pub use pattern_files::pf_code;
+pub use pattern_files::pf_input;
+pub use pattern_files::pf_read;
+pub use pattern_files::pf_write;
 ghost use mathlib.Core.Path.{_≡_};
 ghost use Prim.Native.Nat.{_*_};
 ghost use Rattle.host.specs.Run.{leftBy, machineRunOf, sizesOf};
