@@ -42,8 +42,8 @@ pub extern "C" fn pf_new(table: &mut [u8], length: usize) -> u32
     }
     let done = Table::new(length);
     let refusal = done.refusal;
-    let after = done.table;
-    store(table, refusal, after);
+    let fresh = done.table;
+    store(table, refusal, fresh);
     answer(refusal, 0)
 }
 
