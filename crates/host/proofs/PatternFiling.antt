@@ -1,20 +1,19 @@
 -- Reading and writing with the answer and the bytes stored are the host's calls.
-use mathlib.Core.List.{List, _++_}
-use mathlib.Core.Path.{_≡_, sym, ap, _∙_}
+use mathlib.Core.List.{List}
+use mathlib.Core.Path.{_≡_, ap, _∙_}
 use Prim.Native.Nat.{ℕ, _≤_, _<_}
 use borrow.Author.Tests.{eq-eqb, ne-eqb, lt-ltb, le-ltb}
-use lib.ListN.{length, drop}
+use lib.ListN.{length}
 use Rattle.cpu.specs.Choice.{if_then_else_}
-use Rattle.pattern.specs.Reader.{readOf, refusalOf}
+use Rattle.pattern.specs.Reader.{readOf}
 use Rattle.pattern.specs.Writer.{partitionBody, writeOf, bufferOf}
 use Rattle.pattern.specs.declared.reader.Answer.{Answer}
 use Rattle.pattern.specs.declared.reader.Answer.the-variants.{Accepted, Refused}
 use Rattle.pattern.specs.declared.values.Values.{Values}
 use Rattle.pattern.specs.declared.writer.Written.{Written}
-use Rattle.pattern.specs.declared.writer.Written.the-variants.{Length, Failed}
 use Rattle.slices.specs.Laws.{copied-front}
 use Rattle.slices.specs.Slices.{copied}
-use Rattle.host.specs.Calls.{answerOf, Answered, answered}
+use Rattle.host.specs.Calls.{answerOf, answered}
 use Rattle.host.specs.PatternFiles.{hostRead, valuesAt, writtenAnswer, hostWrite}
 
 -- by the reader's answer x, which is a case y

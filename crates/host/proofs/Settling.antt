@@ -1,6 +1,6 @@
 -- A call by value on the decoded table, with its answer and its bytes stored, is the host's call.
-use mathlib.Core.Bool.{Bool, true, false, cond, not, _&&_}
-use mathlib.Core.List.{List, [], _∷_, _++_}
+use mathlib.Core.Bool.{Bool, true, false, cond, _&&_}
+use mathlib.Core.List.{List, _++_}
 use mathlib.Core.Path.{_≡_, refl, sym, ap, _∙_}
 use Prim.Native.Nat.{ℕ, _+_, _≤_, _<_}
 use native.Mathlib.Omega.{arith}
@@ -21,7 +21,7 @@ use Rattle.supervisor.specs.Table.{partitionSound, sound}
 use Rattle.supervisor.specs.declared.reported.Report.{Report}
 use Rattle.supervisor.specs.declared.table.Partition.{Partition}
 use Rattle.supervisor.specs.declared.table.Table.{Table}
-use Rattle.host.specs.Calls.{answerOf, lent, bytesAfter, Answered, answered, hostNew, Hosted, hosted, countOf, hostOutcome, hostDrained, reportBytes, hostReportRefusal, hostReport}
+use Rattle.host.specs.Calls.{answerOf, lent, bytesAfter, answered, hostNew, hosted, countOf, hostOutcome, hostDrained, reportBytes, hostReportRefusal, hostReport}
 use Rattle.host.specs.TableEncoding.{tableAt}
 
 -- ---- calls with a table and a memory

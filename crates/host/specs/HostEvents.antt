@@ -32,16 +32,16 @@ pub data HostEvent : Type 0 where
   pf-report : (slot : ℕ) (report : List ℕ) → HostEvent
   write : (place byte : ℕ) → HostEvent
 
-abbrev pub leftBy : Hosted → Host
-leftBy r = record { table = r .table; memory = r .memory }
+abbrev pub leftOf : Hosted → Host
+leftOf r = record { table = r .table; memory = r .memory }
 
 -- what it then holds; a report is given the table to read, and no memory
 unfoldable pub hostAfter : HostEvent → Host → Host
-hostAfter (pf-load k location file) h = leftBy (hostOutcome (events.load k location file) (h .table) (h .memory))
-hostAfter (pf-unload k) h = leftBy (hostOutcome (events.unload k) (h .table) (h .memory))
-hostAfter (pf-feed k input) h = leftBy (hostOutcome (events.feed k input) (h .table) (h .memory))
-hostAfter (pf-drain k buffer) h = leftBy (hostOutcome (events.drain k (length buffer)) (h .table) (h .memory))
-hostAfter (pf-run count) h = leftBy (hostOutcome (events.run count) (h .table) (h .memory))
+hostAfter (pf-load k location file) h = leftOf (hostOutcome (events.load k location file) (h .table) (h .memory))
+hostAfter (pf-unload k) h = leftOf (hostOutcome (events.unload k) (h .table) (h .memory))
+hostAfter (pf-feed k input) h = leftOf (hostOutcome (events.feed k input) (h .table) (h .memory))
+hostAfter (pf-drain k buffer) h = leftOf (hostOutcome (events.drain k (length buffer)) (h .table) (h .memory))
+hostAfter (pf-run count) h = leftOf (hostOutcome (events.run count) (h .table) (h .memory))
 hostAfter (pf-report k report) h = h
 hostAfter (write i b) h = record { table = h .table; memory = set (h .memory) i b }
 

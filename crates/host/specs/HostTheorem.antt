@@ -9,17 +9,15 @@ use borrow.Author.Tests.{eq-eqb}
 use lib.Dec.{eqb}
 use lib.ListN.{length, getD, set, length-set}
 use Rattle.cpu.specs.Choice.{if_then_else_}
-use Rattle.cpu.specs.Machine.{Machine, machineStep, times}
-use Rattle.cpu.specs.declared.machine.State.{State}
-use Rattle.supervisor.specs.Events as events
-use Rattle.supervisor.specs.Events.{Call, load, unload, feed, drain, run, report, refusal, effect, afterCall, call, after, afterAll, Demand3}
+use Rattle.cpu.specs.Machine.{times}
+use Rattle.supervisor.specs.Events.{Call, load, unload, feed, drain, run, report, refusal, effect, afterCall, after, afterAll}
 use Rattle.supervisor.specs.Operations.{System, system, slotOf, stateOf, emptySlot, freshState, fedState, drainedState, turned, turn, turns, afterLoad, afterUnload, afterFeed, afterDrain, afterRun}
 use Rattle.supervisor.specs.Table.{noSlot, slotAt, withSlot, machineIn, sound}
 use Rattle.supervisor.specs.Theorem.{demand3}
 use Rattle.supervisor.specs.declared.table.Slot.{Slot}
 use Rattle.supervisor.specs.declared.table.Table.{Table}
-use Rattle.host.specs.Calls.{bytesAfter, hostOutcome, lent}
-use Rattle.host.specs.HostEvents.{Host, systemOf, HostEvent, pf-load, pf-unload, pf-feed, pf-drain, pf-run, pf-report, write, leftBy, hostAfter, hostAfterAll, eventOf, eventsOf, HostDemand3}
+use Rattle.host.specs.Calls.{bytesAfter, hostOutcome}
+use Rattle.host.specs.HostEvents.{Host, systemOf, HostEvent, pf-load, pf-unload, pf-feed, pf-drain, pf-run, pf-report, write, leftOf, hostAfter, hostAfterAll, eventOf, eventsOf, HostDemand3}
 use Rattle.host.specs.LengthLaws.{times-lengths}
 use Rattle.host.specs.TableEncoding.{tableAt, tableBytes}
 use Rattle.host.specs.TableRoundTrip.{Shaped, AllShaped, TableShaped, table-decoded, table-length, table-shaped}
@@ -85,7 +83,7 @@ record Holds (h : Host) (y : System) : Type 0 where
   whole : length (h .table) ≡ 364
 
 -- by whether the call is accepted
-call-follows : (c : Call) (h : Host) → length (h .table) ≡ 364 → Holds (leftBy (hostOutcome c (h .table) (h .memory))) (afterCall c (systemOf h))
+call-follows : (c : Call) (h : Host) → length (h .table) ≡ 364 → Holds (leftOf (hostOutcome c (h .table) (h .memory))) (afterCall c (systemOf h))
 unfolding hostOutcome bytesAfter afterCall if_then_else_
 call-follows c h whole = rw (eq-eqb (length (h .table)) 364 whole) (go (eqb (refusal c (systemOf h)) 0))
   where

@@ -3,13 +3,13 @@ use mathlib.Core.Bool.{Bool, true, false}
 use mathlib.Core.List.{List}
 use mathlib.Core.Path.{_≡_, refl, _∙_}
 use Prim.Native.Nat.{ℕ, zero, suc}
-use lib.ListN.{length, set, length-set}
-use Rattle.cpu.specs.Address.{fetchOf, withByte, withAddress}
-use Rattle.cpu.specs.Branch.{countedOf, callsOf, jumpedOf, branchedOf, reachedOf, targetOf, withTarget, branchOf, zeroBranchOf, indexedBranchOf, returnIfOf, enabledOf, returnEnableOf}
+use lib.ListN.{length, length-set}
+use Rattle.cpu.specs.Address.{withByte, withAddress}
+use Rattle.cpu.specs.Branch.{countedOf, callsOf, jumpedOf, branchedOf, targetOf, withTarget, branchOf, zeroBranchOf, indexedBranchOf, returnIfOf, enabledOf, returnEnableOf}
 use Rattle.cpu.specs.Choice.{if_then_else_}
 use Rattle.cpu.specs.Decode.{decodeOf}
 use Rattle.cpu.specs.Instruction.{executeOf, stepOf}
-use Rattle.cpu.specs.Machine.{Machine, portsOf, effectOf, continuedOf, afterStep, machineStep, times}
+use Rattle.cpu.specs.Machine.{Machine, portsOf, effectOf, continuedOf, machineStep, times}
 use Rattle.cpu.specs.Operand.{Operand, Found, NoOperand, steppedIndexOf, registerOperandOf, immediateOperandOf, relativeOperandOf, absoluteOperandOf, operandOf, withOperand, usedOf, withOperandOf}
 use Rattle.cpu.specs.Port.{readOf, writeOf}
 use Rattle.cpu.specs.Result.{Ports, Effect, Nothing, Store, Take, Put, Stepped, stoppedOf, advancedOf, appliedOf, changedOf, operatedOf}
@@ -30,7 +30,6 @@ use Rattle.cpu.specs.declared.decode.Kind.the-variants.{Bct, Bcf, Brn, Bir, Bdr
 use Rattle.cpu.specs.declared.decode.Mode.{Mode}
 use Rattle.cpu.specs.declared.decode.Mode.the-variants.{Register, Immediate, Relative, Absolute}
 use Rattle.cpu.specs.declared.decode.Reach.{Reach}
-use Rattle.cpu.specs.declared.decode.Reach.the-variants.{Near, Far}
 use Rattle.cpu.specs.declared.decode.Use.{Use}
 use Rattle.cpu.specs.declared.decode.Use.the-variants.{Read, Write}
 use Rattle.cpu.specs.declared.state.Cpu.{Cpu}

@@ -1,6 +1,6 @@
 -- Laws that the checker has shown: the stretch that a host is answered is the body itself, whatever the file; and values cross the border
 -- and back unchanged.
-use mathlib.Core.List.{List, [], _∷_}
+use mathlib.Core.List.{List, []}
 use mathlib.Core.Path.{_≡_, refl, sym, ap, _∙_}
 use Prim.Native.Nat.{ℕ, _+_, _*_, _/_, _%_, _≤_, _<_}
 use native.Mathlib.Omega.{arith}
@@ -10,7 +10,7 @@ use Rattle.pattern.specs.Frame.{bodyLength, bodyOf, afterRecord}
 use Rattle.pattern.specs.FrameLaws.{word-bytes}
 use Rattle.pattern.specs.Image.{trim}
 use Rattle.pattern.specs.ImageLaws.{trim-short}
-use Rattle.pattern.specs.Reader.{readOf, formIn, ifAccepted, codeOf, inputOf, fromPartition, fromCode, fromInput}
+use Rattle.pattern.specs.Reader.{readOf, ifAccepted, codeOf, inputOf, fromPartition, fromCode, fromInput}
 use Rattle.pattern.specs.ReaderLaws.{FileIs, file-is, code-body-is, code-length, input-body-is, input-length, code-fits, input-fits, read-ranges}
 use Rattle.pattern.specs.ValuesLaws.{ranges}
 use Rattle.pattern.specs.Writer.{partitionBody, fileOf, writeOf}

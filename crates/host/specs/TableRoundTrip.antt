@@ -4,10 +4,10 @@ use mathlib.Core.List.{List, [], _∷_, _++_}
 use mathlib.Core.Path.{_≡_, refl, sym, ap, subst⁻¹, _∙_}
 use Prim.Native.Nat.{ℕ, zero, suc, _+_, _*_, _/_, _%_, _<_, _≤_}
 use native.Mathlib.Decide.{decLt}
-use native.Mathlib.Nat.{div-add-mod', zero-add}
+use native.Mathlib.Nat.{div-add-mod'}
 use native.Mathlib.Omega.{arith}
 use lib.ListN.{length, getD, take, drop, length-append, length-take, length-drop, take-append-drop, List·getD-eq-default}
-use lib.Seq.{take-at, drop-at, take-length, drop-drop, getD-take, getD-drop, length-take-le, take-suc}
+use lib.Seq.{take-at, drop-at, drop-drop, getD-take, length-take-le}
 use Rattle.cpu.specs.declared.machine.State.{State}
 use Rattle.slices.specs.Laws.{bytes-drop}
 use Rattle.slices.specs.Slices.{Bytes, partOf}
@@ -15,7 +15,7 @@ use Rattle.supervisor.specs.declared.table.Partition.{Partition}
 use Rattle.supervisor.specs.declared.table.Slot.{Slot}
 use Rattle.supervisor.specs.declared.table.Table.{Table}
 use Rattle.host.specs.Encoding.{bytesOf, cpuAt, numberAt, pairOf, pairsOf, registersAt, returnsAt, stateOf}
-use Rattle.host.specs.RoundTrip.{table, table-all, decoded, encoded, pair-law, spelled, spelled-same}
+use Rattle.host.specs.RoundTrip.{table, decoded, encoded, pair-law, spelled, spelled-same}
 use Rattle.host.specs.TableEncoding.{fourOf, partitionBytes, slotBytes, slotsBytes, tableBytes, fourAt, partitionAt, slotFrom, slotsFrom, tableAt}
 
 -- a state has seven registers and eight return addresses, and a table eight slots: in the code by their types

@@ -8,53 +8,37 @@ use Rattle.host.proofs.Settling.{other-length, settled, drained-few, bu
 use borrow.Author.Needs.{needs}
 use Rattle.host.proofs.calls.pf_drain.Statement.{statement}
 use Rattle.host.proofs.calls.pf_drain.Tie as tie
-use Rattle.host.proofs.calls.pf_drain.Reads as reads
-use Rattle.host.proofs.calls.pf_drain.Lts as lts
-use Rattle.host.proofs.calls.answer.Reads as answer-reads
-use Rattle.host.proofs.calls.store.Reads as store-reads
-use Rattle.host.proofs.table_encoding.decode_table.Reads as decode-table-reads
-use Rattle.supervisor.proofs.drain.Reads as drain-reads
 
--- src/calls.rt:108:9
 answer-requires : tie.Need-answer-requires
 answer-requires c κs = search needs
 
--- src/calls.rt:108:9
 returns : tie.Need-returns
 returns c = (
   other-length (drain (c .before .before .before .before .before .args .slot) (length (now (c .before .before .before .before .before .args .buffer)))) (now (c .before .before .before .before .before .args .table)) (now (c .before .before .before .before .before .args .memory)) _ (c .before .if1 .taken) (c .answer .ensures),
   buffer-left (now (c .before .before .before .before .before .args .table)) (now (c .before .before .before .before .before .args .memory)) (c .before .before .before .before .before .args .slot) (now (c .before .before .before .before .before .args .buffer)) (c .before .if1 .taken),
 )
 
--- src/calls.rt:110:9
 decode-table-requires : tie.Need-decode-table-requires
 decode-table-requires c κs = search needs
 
--- src/calls.rt:111:9
 drain-requires : tie.Need-drain-requires
 drain-requires c κs = search needs
 
--- src/calls.rt:114:5
 store-requires : tie.Need-store-requires
 store-requires c κs = search needs
 
--- src/calls.rt:115:21
 cast-answer : tie.Need-cast-answer
 cast-answer c = omega (arith, c .before .before .before .before .before .before .before .before .drain .ensures .1 .0, drained-few (system (c .before .before .before .before .before .before .before .before .before .before .decode-table .result) (now (c .before .before .before .before .before .before .before .before .before .before .before .before .before .before .before .before .args .memory))) (c .before .before .before .before .before .before .before .before .before .before .before .before .before .before .before .before .args .slot) (length (now (c .before .before .before .before .before .before .before .before .before .before .before .before .before .before .before .before .args .buffer))))
 
--- src/calls.rt:115:5
 answer-requires-2 : tie.Need-answer-requires-2
 answer-requires-2 c κs = search needs
 
--- src/calls.rt:102:1
 same-length : tie.Need-same-length
 same-length c = search needs
 
--- src/calls.rt:102:1
 same-length-2 : tie.Need-same-length-2
 same-length-2 c = search needs
 
--- src/calls.rt:102:1
 returns-2 : tie.Need-returns-2
 unfolding countOf
 returns-2 c = (

@@ -3,37 +3,25 @@ use Rattle.host.proofs.Settling.{new-other, new-made}
 use borrow.Author.Needs.{needs}
 use Rattle.host.proofs.calls.pf_new.Statement.{statement}
 use Rattle.host.proofs.calls.pf_new.Tie as tie
-use Rattle.host.proofs.calls.pf_new.Reads as reads
-use Rattle.host.proofs.calls.pf_new.Lts as lts
-use Rattle.host.proofs.calls.answer.Reads as answer-reads
-use Rattle.host.proofs.calls.store.Reads as store-reads
-use Rattle.supervisor.proofs.table.Table.new.Reads as new-reads
 
--- src/calls.rt:41:9
 answer-requires : tie.Need-answer-requires
 answer-requires c κs = search needs
 
--- src/calls.rt:41:9
 returns : tie.Need-returns
 returns c = new-other (c .before .before .before .args .length) (now (c .before .before .before .args .table)) _ (c .before .if1 .taken) (c .answer .ensures)
 
--- src/calls.rt:43:9
 new-requires : tie.Need-new-requires
 new-requires c κs = search needs
 
--- src/calls.rt:46:5
 store-requires : tie.Need-store-requires
 store-requires c κs = search needs
 
--- src/calls.rt:47:5
 answer-requires-2 : tie.Need-answer-requires-2
 answer-requires-2 c κs = search needs
 
--- src/calls.rt:36:1
 same-length : tie.Need-same-length
 same-length c = search needs
 
--- src/calls.rt:36:1
 returns-2 : tie.Need-returns-2
 returns-2 c = new-made (c .before .before .before .before .before .before .before .before .before .args .length) (now (c .before .before .before .before .before .before .before .before .before .args .table)) _ (c .before .before .before .before .before .before .new .result .refusal) (c .before .before .before .before .before .before .new .result .table) _ (c .before .before .before .before .before .before .before .if1 .left) (c .before .before .before .before .before .before .new .ensures .0) (c .before .before .before .before .before .before .new .ensures .1) (c .answer2 .ensures) (c .before .before .before .store .ensures)
 

@@ -6,67 +6,46 @@ use Rattle.host.proofs.Settling.{report-other, report-refused, report-s
 use borrow.Author.Needs.{needs}
 use Rattle.host.proofs.calls.pf_report.Statement.{statement}
 use Rattle.host.proofs.calls.pf_report.Tie as tie
-use Rattle.host.proofs.calls.pf_report.Reads as reads
-use Rattle.host.proofs.calls.pf_report.Lts as lts
-use Rattle.host.proofs.calls.answer.Reads as answer-reads
-use Rattle.host.proofs.calls.report_bytes.Reads as report-bytes-reads
-use Rattle.host.proofs.table_encoding.decode_table.Reads as decode-table-reads
-use Rattle.slices.proofs.copy.Reads as copy-reads
-use Rattle.supervisor.proofs.report.Reads as report-reads
 
--- src/calls.rt:159:9
 answer-requires : tie.Need-answer-requires
 answer-requires c κs = search needs
 
--- src/calls.rt:159:9
 returns : tie.Need-returns
 returns c = report-other (now (c .before .before .before .before .args .table)) (c .before .before .before .before .args .slot) (now (c .before .before .before .before .args .report)) _ (c .before .if1 .taken) (c .answer .ensures)
 
--- src/calls.rt:161:35
 decode-table-requires : tie.Need-decode-table-requires
 decode-table-requires c κs = search needs
 
--- src/calls.rt:161:9
 report-requires : tie.Need-report-requires
 report-requires c κs = search needs
 
--- src/calls.rt:164:9
 answer-requires-2 : tie.Need-answer-requires-2
 answer-requires-2 c κs = search needs
 
--- src/calls.rt:164:9
 returns-2 : tie.Need-returns-2
 returns-2 c = report-refused (now (c .before .before .before .before .before .before .before .args .table)) (c .before .before .before .before .before .before .before .args .slot) (now (c .before .before .before .before .before .before .before .args .report)) (c .before .before .before .before .if1 .left) (c .before .before .before .decode-table .result) (c .before .before .report .result) (c .before .before .before .decode-table .ensures) (c .before .before .report .ensures) _ (c .before .if2 .taken) (c .answer2 .ensures)
 
--- src/calls.rt:167:9
 answer-requires-3 : tie.Need-answer-requires-3
 answer-requires-3 c κs = search needs
 
--- src/calls.rt:167:9
 returns-3 : tie.Need-returns-3
 returns-3 c = report-short (now (c .before .before .before .before .before .before .before .before .args .table)) (c .before .before .before .before .before .before .before .before .args .slot) (now (c .before .before .before .before .before .before .before .before .args .report)) (c .before .before .before .before .before .if1 .left) (c .before .before .before .before .decode-table .result) (c .before .before .before .report .result) (c .before .before .before .before .decode-table .ensures) (c .before .before .before .report .ensures) (c .before .before .if2 .left) _ (c .before .if3 .taken) (c .answer3 .ensures)
 
--- src/calls.rt:169:17
 report-bytes-requires : tie.Need-report-bytes-requires
 report-bytes-requires c κs = search needs
 
--- src/calls.rt:170:29
 slice-aggregate-copy : tie.Need-slice-aggregate-copy
 slice-aggregate-copy c = search needs
 
--- src/calls.rt:170:5
 copy-requires : tie.Need-copy-requires
 copy-requires c κs = search needs
 
--- src/calls.rt:171:5
 answer-requires-4 : tie.Need-answer-requires-4
 answer-requires-4 c κs = search needs
 
--- src/calls.rt:154:1
 same-length : tie.Need-same-length
 same-length c = search needs
 
--- src/calls.rt:154:1
 returns-4 : tie.Need-returns-4
 returns-4 c = let size : length (c .before .before .before .before .before .before .report-bytes .result) ≡ 12 = search needs in
     report-made (now (c .before .before .before .before .before .before .before .before .before .before .before .before .before .before .args .table)) (c .before .before .before .before .before .before .before .before .before .before .before .before .before .before .args .slot) (now (c .before .before .before .before .before .before .before .before .before .before .before .before .before .before .args .report)) (c .before .before .before .before .before .before .before .before .before .before .before .if1 .left) (c .before .before .before .before .before .before .before .before .before .before .decode-table .result) (c .before .before .before .before .before .before .before .before .before .report .result) (c .before .before .before .before .before .before .before .before .before .before .decode-table .ensures) (c .before .before .before .before .before .before .before .before .before .report .ensures) (c .before .before .before .before .before .before .before .before .if2 .left) _ _ (c .before .before .before .before .before .before .before .if3 .left) (c .answer4 .ensures) (sym (ap length (c .before .before .before .before .before .before .report-bytes .ensures)) ∙ size) (c .before .before .before .copy .ensures ∙ ap (copied (now (c .before .before .before .before .before .before .before .before .before .before .before .before .before .before .args .report)) 0) (c .before .before .before .before .before .before .report-bytes .ensures))

@@ -6,46 +6,31 @@ use Rattle.host.proofs.Settling.{other-length, settled}
 use borrow.Author.Needs.{needs}
 use Rattle.host.proofs.calls.pf_unload.Statement.{statement}
 use Rattle.host.proofs.calls.pf_unload.Tie as tie
-use Rattle.host.proofs.calls.pf_unload.Reads as reads
-use Rattle.host.proofs.calls.pf_unload.Lts as lts
-use Rattle.host.proofs.calls.answer.Reads as answer-reads
-use Rattle.host.proofs.calls.store.Reads as store-reads
-use Rattle.host.proofs.table_encoding.decode_table.Reads as decode-table-reads
-use Rattle.supervisor.proofs.unload.Reads as unload-reads
 
--- src/calls.rt:76:9
 answer-requires : tie.Need-answer-requires
 answer-requires c κs = search needs
 
--- src/calls.rt:76:9
 returns : tie.Need-returns
 returns c = other-length (unload (c .before .before .before .before .args .slot)) (now (c .before .before .before .before .args .table)) (now (c .before .before .before .before .args .memory)) _ (c .before .if1 .taken) (c .answer .ensures)
 
--- src/calls.rt:78:9
 decode-table-requires : tie.Need-decode-table-requires
 decode-table-requires c κs = search needs
 
--- src/calls.rt:79:9
 unload-requires : tie.Need-unload-requires
 unload-requires c κs = search needs
 
--- src/calls.rt:82:5
 store-requires : tie.Need-store-requires
 store-requires c κs = search needs
 
--- src/calls.rt:83:5
 answer-requires-2 : tie.Need-answer-requires-2
 answer-requires-2 c κs = search needs
 
--- src/calls.rt:71:1
 same-length : tie.Need-same-length
 same-length c = search needs
 
--- src/calls.rt:71:1
 same-length-2 : tie.Need-same-length-2
 same-length-2 c = search needs
 
--- src/calls.rt:71:1
 returns-2 : tie.Need-returns-2
 unfolding countOf
 returns-2 c = settled (unload (c .before .before .before .before .before .before .before .before .before .before .before .before .before .before .before .args .slot)) (now (c .before .before .before .before .before .before .before .before .before .before .before .before .before .before .before .args .table)) (now (c .before .before .before .before .before .before .before .before .before .before .before .before .before .before .before .args .memory)) (c .before .before .before .before .before .before .before .before .before .before .decode-table .result) (c .before .before .before .before .before .before .before .before .unload .result .refusal) (c .before .before .before .before .before .before .before .before .unload .result .table) _ (c .before .before .before .before .before .before .before .before .before .before .before .before .if1 .left) (c .before .before .before .before .before .before .before .before .before .before .decode-table .ensures) (c .before .before .before .before .before .before .before .before .unload .ensures) 0 _ _ refl (c .answer2 .ensures) (c .before .before .before .store .ensures)

@@ -8,46 +8,34 @@ use Rattle.host.specs.RoundTrip.{table-all}
 use borrow.Author.Needs.{needs}
 use Rattle.host.proofs.calls.report_bytes.Statement.{statement}
 use Rattle.host.proofs.calls.report_bytes.Tie as tie
-use Rattle.host.proofs.calls.report_bytes.Reads as reads
-use Rattle.host.proofs.calls.report_bytes.Lts as lts
 
--- src/calls.rt:139:9
 cast-t4 : tie.Need-cast-t4
 cast-t4 c = search needs
 
--- src/calls.rt:140:9
 cast-t6 : tie.Need-cast-t6
 cast-t6 c = search needs
 
--- src/calls.rt:141:9
 array-read-t9 : tie.Need-array-read-t9
 array-read-t9 c = search needs
 
--- src/calls.rt:142:9
 array-read-t12 : tie.Need-array-read-t12
 array-read-t12 c = search needs
 
--- src/calls.rt:143:9
 array-read-t15 : tie.Need-array-read-t15
 array-read-t15 c = search needs
 
--- src/calls.rt:144:9
 array-read-t18 : tie.Need-array-read-t18
 array-read-t18 c = search needs
 
--- src/calls.rt:145:9
 array-read-t21 : tie.Need-array-read-t21
 array-read-t21 c = search needs
 
--- src/calls.rt:146:9
 array-read-t24 : tie.Need-array-read-t24
 array-read-t24 c = search needs
 
--- src/calls.rt:147:9
 array-read-t27 : tie.Need-array-read-t27
 array-read-t27 c = search needs
 
--- src/calls.rt:133:1
 returns : tie.Need-returns
 unfolding reportBytes pairOf
 returns c = let l = c .before .before .before .args .r .registers in

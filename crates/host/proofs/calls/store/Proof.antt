@@ -5,24 +5,17 @@ use Rattle.host.specs.Calls.{bytesAfter}
 use borrow.Author.Needs.{needs}
 use Rattle.host.proofs.calls.store.Statement.{statement}
 use Rattle.host.proofs.calls.store.Tie as tie
-use Rattle.host.proofs.calls.store.Reads as reads
-use Rattle.host.proofs.calls.store.Lts as lts
-use Rattle.host.proofs.table_encoding.encode_table.Reads as encode-table-reads
 
--- src/calls.rt:31:9
 encode-table-requires : tie.Need-encode-table-requires
 encode-table-requires c κs = search needs
 
--- src/calls.rt:26:1
 same-length : tie.Need-same-length
 same-length c = search needs
 
--- src/calls.rt:26:1
 returns : tie.Need-returns
 unfolding bytesAfter if_then_else_
 returns c = rw (eq-eqb _ _ (c .before .before .before .before .if1 .taken)) (c .before .before .encode-table .ensures)
 
--- src/calls.rt:26:1
 returns-2 : tie.Need-returns-2
 unfolding bytesAfter if_then_else_
 returns-2 c = rw (ne-eqb _ _ (c .if1 .left)) refl

@@ -1,35 +1,23 @@
 use Rattle.host.specs.PatternFiles.{valuesAt}
-use borrow.Author.Tests.{eq-eqb, ne-eqb, lt-ltb, le-ltb, le-leb, lt-leb}
-use mathlib.Core.Path.{_∙_, sym, refl}
 use borrow.Author.Needs.{needs}
 use Rattle.host.proofs.pattern_files.decode_values.Statement.{statement}
 use Rattle.host.proofs.pattern_files.decode_values.Tie as tie
-use Rattle.host.proofs.pattern_files.decode_values.Reads as reads
-use Rattle.host.proofs.pattern_files.decode_values.Lts as lts
-use Rattle.host.proofs.encoding.byte.Reads as byte-reads
-use Rattle.host.proofs.encoding.number.Reads as number-reads
 
--- src/pattern_files.rt:37:9
 number-requires : tie.Need-number-requires
 number-requires c κs = search needs
 
--- src/pattern_files.rt:38:9
 number-requires-2 : tie.Need-number-requires-2
 number-requires-2 c κs = search needs
 
--- src/pattern_files.rt:39:9
 number-requires-3 : tie.Need-number-requires-3
 number-requires-3 c κs = search needs
 
--- src/pattern_files.rt:40:9
 number-requires-4 : tie.Need-number-requires-4
 number-requires-4 c κs = search needs
 
--- src/pattern_files.rt:41:9
 byte-requires : tie.Need-byte-requires
 byte-requires c κs = search needs
 
--- src/pattern_files.rt:34:1
 returns : tie.Need-returns
 unfolding valuesAt
 returns c =

@@ -9,40 +9,28 @@ use Rattle.host.specs.PatternFileLaws.{code-accepted, code-few, code-ref
 use borrow.Author.Needs.{needs}
 use Rattle.host.proofs.pattern_files.pf_code.Statement.{statement}
 use Rattle.host.proofs.pattern_files.pf_code.Tie as tie
-use Rattle.host.proofs.pattern_files.pf_code.Reads as reads
-use Rattle.host.proofs.pattern_files.pf_code.Lts as lts
-use Rattle.host.proofs.pattern_files.stretch.Reads as stretch-reads
-use Rattle.pattern.proofs.code_body.Reads as code-body-reads
-use Rattle.pattern.proofs.read.Reads as read-reads
 
--- src/pattern_files.rt:79:9
 read-requires : tie.Need-read-requires
 read-requires c κs = search needs
 
 enum-told : tie.Need-enum-told
 enum-told c = search needs
 
--- src/pattern_files.rt:81:9
 enum-told-2 : tie.Need-enum-told-2
 enum-told-2 c = search needs
 
--- src/pattern_files.rt:81:9
 returns : tie.Need-returns
 returns c = sym (code-refused (now (c .before .before .before .before .args .file)) _ (sym (c .before .before .read .ensures) ∙ c .enum-told2 .given .1))
 
--- src/pattern_files.rt:83:9
 code-body-requires : tie.Need-code-body-requires
 code-body-requires c κs = search needs
 
--- src/pattern_files.rt:84:19
 cast-stretch : tie.Need-cast-stretch
 cast-stretch c = omega (arith, ap length (c .code-body .ensures), code-few (now (c .before .before .before .before .before .args .file)) _ (sym (c .before .before .before .read .ensures) ∙ c .before .enum-told .given .1))
 
--- src/pattern_files.rt:84:5
 stretch-requires : tie.Need-stretch-requires
 stretch-requires c κs = search needs
 
--- src/pattern_files.rt:75:1
 returns-2 : tie.Need-returns-2
 returns-2 c = c .stretch .ensures ∙ ap (λ (l : List ℕ). stretchOf 23 (length l)) (c .before .code-body .ensures) ∙ sym (code-accepted (now (c .before .before .before .before .before .before .args .file)) _ (sym (c .before .before .before .before .read .ensures) ∙ c .before .before .enum-told .given .1))
 

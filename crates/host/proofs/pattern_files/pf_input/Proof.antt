@@ -9,57 +9,40 @@ use Rattle.host.specs.PatternFileLaws.{code-few, input-accepted, input-f
 use borrow.Author.Needs.{needs}
 use Rattle.host.proofs.pattern_files.pf_input.Statement.{statement}
 use Rattle.host.proofs.pattern_files.pf_input.Tie as tie
-use Rattle.host.proofs.pattern_files.pf_input.Reads as reads
-use Rattle.host.proofs.pattern_files.pf_input.Lts as lts
-use Rattle.host.proofs.pattern_files.stretch.Reads as stretch-reads
-use Rattle.pattern.proofs.code_body.Reads as code-body-reads
-use Rattle.pattern.proofs.input_body.Reads as input-body-reads
-use Rattle.pattern.proofs.read.Reads as read-reads
 
--- src/pattern_files.rt:92:9
 read-requires : tie.Need-read-requires
 read-requires c κs = search needs
 
 enum-told : tie.Need-enum-told
 enum-told c = search needs
 
--- src/pattern_files.rt:94:9
 enum-told-2 : tie.Need-enum-told-2
 enum-told-2 c = search needs
 
--- src/pattern_files.rt:94:9
 returns : tie.Need-returns
 returns c = sym (input-refused (now (c .before .before .before .before .args .file)) _ (sym (c .before .before .read .ensures) ∙ c .enum-told2 .given .1))
 
--- src/pattern_files.rt:96:9
 code-body-requires : tie.Need-code-body-requires
 code-body-requires c κs = search needs
 
--- src/pattern_files.rt:97:9
 input-body-requires : tie.Need-input-body-requires
 input-body-requires c κs = search needs
 
--- src/pattern_files.rt:98:20
 cast-stretch : tie.Need-cast-stretch
 cast-stretch c = omega (arith, ap length (c .before .code-body .ensures), code-few (now (c .before .before .before .before .before .before .args .file)) _ (sym (c .before .before .before .before .read .ensures) ∙ c .before .before .enum-told .given .1))
 
--- src/pattern_files.rt:98:13
 add-stretch : tie.Need-add-stretch
 add-stretch c = omega (arith, ap length (c .before .code-body .ensures), code-few (now (c .before .before .before .before .before .before .args .file)) _ (sym (c .before .before .before .before .read .ensures) ∙ c .before .before .enum-told .given .1))
 
--- src/pattern_files.rt:98:13
 add-stretch-2 : tie.Need-add-stretch-2
 add-stretch-2 c = omega (arith, ap length (c .before .code-body .ensures), code-few (now (c .before .before .before .before .before .before .args .file)) _ (sym (c .before .before .before .before .read .ensures) ∙ c .before .before .enum-told .given .1))
 
--- src/pattern_files.rt:98:43
 cast-stretch-2 : tie.Need-cast-stretch-2
 cast-stretch-2 c = omega (arith, ap length (c .input-body .ensures), input-few (now (c .before .before .before .before .before .before .args .file)) _ (sym (c .before .before .before .before .read .ensures) ∙ c .before .before .enum-told .given .1))
 
--- src/pattern_files.rt:98:5
 stretch-requires : tie.Need-stretch-requires
 stretch-requires c κs = search needs
 
--- src/pattern_files.rt:88:1
 returns-2 : tie.Need-returns-2
 returns-2 c = c .stretch .ensures ∙ ap (λ (l : List ℕ). stretchOf (23 + length l + 4) (length (now (c .before .input-body .result)))) (c .before .before .code-body .ensures) ∙ ap (λ (l : List ℕ). stretchOf (inputPlace (now (c .before .before .before .before .before .before .before .args .file))) (length l)) (c .before .input-body .ensures) ∙ sym (input-accepted (now (c .before .before .before .before .before .before .before .args .file)) _ (sym (c .before .before .before .before .before .read .ensures) ∙ c .before .before .before .enum-told .given .1))
 

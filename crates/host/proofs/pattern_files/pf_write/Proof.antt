@@ -8,61 +8,43 @@ use Rattle.host.proofs.PatternFiling.{write-other, write-made}
 use borrow.Author.Needs.{needs}
 use Rattle.host.proofs.pattern_files.pf_write.Statement.{statement}
 use Rattle.host.proofs.pattern_files.pf_write.Tie as tie
-use Rattle.host.proofs.pattern_files.pf_write.Reads as reads
-use Rattle.host.proofs.pattern_files.pf_write.Lts as lts
-use Rattle.host.proofs.calls.answer.Reads as answer-reads
-use Rattle.host.proofs.pattern_files.decode_values.Reads as decode-values-reads
-use Rattle.pattern.proofs.write.Reads as write-reads
 
--- src/pattern_files.rt:107:9
 answer-requires : tie.Need-answer-requires
 answer-requires c κs = search needs
 
--- src/pattern_files.rt:107:9
 returns : tie.Need-returns
 returns c = write-other (now (c .before .before .before .before .before .before .args .values)) (now (c .before .before .before .before .before .before .args .image)) (now (c .before .before .before .before .before .before .args .input)) (now (c .before .before .before .before .before .before .args .buffer)) _ (c .before .if1 .taken) (c .answer .ensures)
 
--- src/pattern_files.rt:109:34
 decode-values-requires : tie.Need-decode-values-requires
 decode-values-requires c κs = search needs
 
--- src/pattern_files.rt:109:9
 write-requires : tie.Need-write-requires
 write-requires c κs = search needs
 
--- src/pattern_files.rt:111:34
 enum-known-written : tie.Need-enum-known-written
 enum-known-written c = search needs
 
--- src/pattern_files.rt:111:50
 cast-answer : tie.Need-cast-answer
 cast-answer c = omega (arith, written-few (c .before .before .before .before .before .before .before .decode-values .result) (now (c .before .before .before .before .before .before .before .before .before .before .before .before .before .args .image)) (now (c .before .before .before .before .before .before .before .before .before .before .before .before .before .args .input)) (length (now (c .before .before .before .before .before .before .before .before .before .before .before .before .before .args .buffer))) (c .before .written .given .0 .0) (sym (c .before .before .before .before .before .write .ensures .0) ∙ c .before .written .given .1))
 
--- src/pattern_files.rt:111:40
 answer-requires-2 : tie.Need-answer-requires-2
 answer-requires-2 c κs = search needs
 
--- src/pattern_files.rt:112:34
 enum-known-written-2 : tie.Need-enum-known-written-2
 enum-known-written-2 c = search needs
 
--- src/pattern_files.rt:112:45
 answer-requires-3 : tie.Need-answer-requires-3
 answer-requires-3 c κs = search needs
 
--- src/pattern_files.rt:102:1
 same-length : tie.Need-same-length
 same-length c = search needs
 
--- src/pattern_files.rt:102:1
 returns-2 : tie.Need-returns-2
 returns-2 c = write-made (now (c .before .before .before .before .before .before .before .before .before .before .before .before .before .before .args .values)) (now (c .before .before .before .before .before .before .before .before .before .before .before .before .before .before .args .image)) (now (c .before .before .before .before .before .before .before .before .before .before .before .before .before .before .args .input)) (now (c .before .before .before .before .before .before .before .before .before .before .before .before .before .before .args .buffer)) (c .before .before .before .before .before .before .before .before .decode-values .result) (c .before .before .before .before .before .before .write .result) _ _ (c .before .before .before .before .before .before .before .before .before .if1 .left) (c .before .before .before .before .before .before .before .before .decode-values .ensures) (c .before .before .before .before .before .before .write .ensures .0) (c .before .before .before .before .before .before .write .ensures .1) (c .answer2 .ensures ∙ sym (ap writtenAnswer (c .before .before .written .given .1)))
 
--- src/pattern_files.rt:102:1
 same-length-2 : tie.Need-same-length-2
 same-length-2 c = search needs
 
--- src/pattern_files.rt:102:1
 returns-3 : tie.Need-returns-3
 returns-3 c = write-made (now (c .before .before .before .before .before .before .before .before .before .before .before .before .before .before .args .values)) (now (c .before .before .before .before .before .before .before .before .before .before .before .before .before .before .args .image)) (now (c .before .before .before .before .before .before .before .before .before .before .before .before .before .before .args .input)) (now (c .before .before .before .before .before .before .before .before .before .before .before .before .before .before .args .buffer)) (c .before .before .before .before .before .before .before .before .decode-values .result) (c .before .before .before .before .before .before .write .result) _ _ (c .before .before .before .before .before .before .before .before .before .if1 .left) (c .before .before .before .before .before .before .before .before .decode-values .ensures) (c .before .before .before .before .before .before .write .ensures .0) (c .before .before .before .before .before .before .write .ensures .1) (c .answer3 .ensures ∙ sym (ap writtenAnswer (c .before .before .written2 .given .1)))
 

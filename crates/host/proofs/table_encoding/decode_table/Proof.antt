@@ -1,51 +1,35 @@
 use Rattle.host.specs.TableEncoding.{slotsFrom, tableAt}
-use borrow.Author.Tests.{eq-eqb, ne-eqb, lt-ltb, le-ltb, le-leb, lt-leb}
-use mathlib.Core.Path.{_∙_, sym, refl}
 use borrow.Author.Needs.{needs}
 use Rattle.host.proofs.table_encoding.decode_table.Statement.{statement}
 use Rattle.host.proofs.table_encoding.decode_table.Tie as tie
-use Rattle.host.proofs.table_encoding.decode_table.Reads as reads
-use Rattle.host.proofs.table_encoding.decode_table.Lts as lts
-use Rattle.host.proofs.table_encoding.decode_slot.Reads as decode-slot-reads
-use Rattle.host.proofs.table_encoding.four.Reads as four-reads
 
--- src/table_encoding.rt:50:9
 four-requires : tie.Need-four-requires
 four-requires c κs = search needs
 
--- src/table_encoding.rt:52:9
 decode-slot-requires : tie.Need-decode-slot-requires
 decode-slot-requires c κs = search needs
 
--- src/table_encoding.rt:53:9
 decode-slot-requires-2 : tie.Need-decode-slot-requires-2
 decode-slot-requires-2 c κs = search needs
 
--- src/table_encoding.rt:54:9
 decode-slot-requires-3 : tie.Need-decode-slot-requires-3
 decode-slot-requires-3 c κs = search needs
 
--- src/table_encoding.rt:55:9
 decode-slot-requires-4 : tie.Need-decode-slot-requires-4
 decode-slot-requires-4 c κs = search needs
 
--- src/table_encoding.rt:56:9
 decode-slot-requires-5 : tie.Need-decode-slot-requires-5
 decode-slot-requires-5 c κs = search needs
 
--- src/table_encoding.rt:57:9
 decode-slot-requires-6 : tie.Need-decode-slot-requires-6
 decode-slot-requires-6 c κs = search needs
 
--- src/table_encoding.rt:58:9
 decode-slot-requires-7 : tie.Need-decode-slot-requires-7
 decode-slot-requires-7 c κs = search needs
 
--- src/table_encoding.rt:59:9
 decode-slot-requires-8 : tie.Need-decode-slot-requires-8
 decode-slot-requires-8 c κs = search needs
 
--- src/table_encoding.rt:47:1
 returns : tie.Need-returns
 unfolding tableAt slotsFrom
 returns c =

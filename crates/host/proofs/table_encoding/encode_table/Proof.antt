@@ -1,6 +1,6 @@
 use mathlib.Core.Path.{_≡_, refl, sym, ap, _∙_}
 use Rattle.host.proofs.Tables.{soFar, none-yet, no-bytes, one-more, size-more, all-done}
-use Prim.Native.Nat.{ℕ, _+_, _*_, _-_, _≤_}
+use Prim.Native.Nat.{ℕ, _*_, _-_, _≤_}
 use borrow.Author.Needs.{needs}
 use denote.Ref.{now}
 use lib.ListN.{length, length-map}
@@ -10,11 +10,6 @@ use Rattle.slices.specs.Slices.{copied}
 use Rattle.host.proofs.Tables.{soFar, none-yet, one-more, size-more, all-done}
 use Rattle.host.proofs.table_encoding.encode_table.Statement.{statement}
 use Rattle.host.proofs.table_encoding.encode_table.Tie as tie
-use Rattle.host.proofs.table_encoding.encode_table.Reads as reads
-use Rattle.host.proofs.table_encoding.encode_table.Lts as lts
-use Rattle.host.proofs.table_encoding.four_bytes.Reads as four-bytes-reads
-use Rattle.host.proofs.table_encoding.put_slot.Reads as put-slot-reads
-use Rattle.slices.proofs.copy.Reads as copy-reads
 
 abbrev Inv-loop : tie.InvT-loop
 Inv-loop bytes₀ table k₀ bytes k =
@@ -23,52 +18,40 @@ Inv-loop bytes₀ table k₀ bytes k =
 abbrev μ-loop : tie.MeasureT-loop
 μ-loop bytes₀ table k₀ bytes k = 8 - k
 
--- src/table_encoding.rt:111:16
 four-bytes-requires : tie.Need-four-bytes-requires Inv-loop μ-loop
 four-bytes-requires c κs = search needs
 
--- src/table_encoding.rt:112:28
 slice-aggregate-copy : tie.Need-slice-aggregate-copy Inv-loop μ-loop
 slice-aggregate-copy c = search needs
 
--- src/table_encoding.rt:112:5
 copy-requires : tie.Need-copy-requires Inv-loop μ-loop
 copy-requires c κs = search needs
 
--- src/table_encoding.rt:114:5
 loop-holds : tie.Need-loop-holds Inv-loop μ-loop
 loop-holds c = let whole : length (now (c .before .before .before .before .before .before .before .args .bytes)) ≡ 364 = c .before .before .before .before .before .before .before .pre in
     (omega arith, none-yet (c .before .before .before .before .before .before .before .args .t2) (c .before .before .copy .last .0) (omega (arith, c .before .before .copy .kept .0)), no-bytes (c .before .before .before .before .before .before .before .args .t2), refl)
 
--- src/table_encoding.rt:115:17
 mul-s : tie.Need-mul-s Inv-loop μ-loop
 mul-s c = search needs
 
--- src/table_encoding.rt:115:17
 element-copy-out-s : tie.Need-element-copy-out-s Inv-loop μ-loop
 element-copy-out-s c = search needs
 
--- src/table_encoding.rt:116:29
 mul-put-slot : tie.Need-mul-put-slot Inv-loop μ-loop
 mul-put-slot c = omega arith
 
--- src/table_encoding.rt:116:25
 add-put-slot : tie.Need-add-put-slot Inv-loop μ-loop
 add-put-slot c = omega arith
 
--- src/table_encoding.rt:116:9
 put-slot-requires : tie.Need-put-slot-requires Inv-loop μ-loop
 put-slot-requires c κs = omega arith
 
--- src/table_encoding.rt:117:9
 add-k : tie.Need-add-k Inv-loop μ-loop
 add-k c = omega arith
 
--- src/table_encoding.rt:114:5
 loop-less : tie.Need-loop-less Inv-loop μ-loop
 loop-less c = omega arith
 
--- src/table_encoding.rt:114:5
 loop-again : tie.Need-loop-again Inv-loop μ-loop
 loop-again c = let a = c .before .before .before .before .before .before .before .before .before .before .before .before .before .before .args in
     let e : length (a .t2 .slots) ≡ 8 = sym (length-map (a .t2 .slots) _) ∙ c .before .before .before .before .before .before .before .before .before .before .before .before .before .before .good .1 .0 .1 .1 .1 .0 .1 .0 .1 in
@@ -80,11 +63,9 @@ loop-again c = let a = c .before .before .before .before .before .before .before
       c .before .before .put-slot .kept .0 ∙ c .before .before .before .before .before .before .loop .inv .3,
     )
 
--- src/table_encoding.rt:107:1
 same-length : tie.Need-same-length Inv-loop μ-loop
 same-length c = c .before .loop .inv .3 ∙ c .before .before .before .before .copy .kept .0
 
--- src/table_encoding.rt:107:1
 returns : tie.Need-returns Inv-loop μ-loop
 returns c = let a = c .before .before .before .before .before .before .before .before .before .args in
     let e : length (a .t2 .slots) ≡ 8 = sym (length-map (a .t2 .slots) _) ∙ c .before .before .before .before .before .before .before .before .before .good .1 .0 .1 .1 .1 .0 .1 .0 .1 in

@@ -4,26 +4,19 @@ use mathlib.Core.Path.{refl}
 use borrow.Author.Needs.{needs}
 use Rattle.host.proofs.table_encoding.four_bytes.Statement.{statement}
 use Rattle.host.proofs.table_encoding.four_bytes.Tie as tie
-use Rattle.host.proofs.table_encoding.four_bytes.Reads as reads
-use Rattle.host.proofs.table_encoding.four_bytes.Lts as lts
 
--- src/table_encoding.rt:68:9
 cast-t4 : tie.Need-cast-t4
 cast-t4 c = search needs
 
--- src/table_encoding.rt:69:9
 cast-t7 : tie.Need-cast-t7
 cast-t7 c = search needs
 
--- src/table_encoding.rt:70:9
 cast-t10 : tie.Need-cast-t10
 cast-t10 c = search needs
 
--- src/table_encoding.rt:71:9
 cast-t13 : tie.Need-cast-t13
 cast-t13 c = search needs
 
--- src/table_encoding.rt:64:1
 returns : tie.Need-returns
 unfolding fourOf pairOf
 returns c = refl

@@ -14,53 +14,37 @@ use Rattle.host.proofs.Tables.{put-back}
 use borrow.Author.Needs.{needs}
 use Rattle.host.proofs.table_encoding.put_slot.Statement.{statement}
 use Rattle.host.proofs.table_encoding.put_slot.Tie as tie
-use Rattle.host.proofs.table_encoding.put_slot.Reads as reads
-use Rattle.host.proofs.table_encoding.put_slot.Lts as lts
-use Rattle.host.proofs.encoding.encode.Reads as encode-reads
-use Rattle.host.proofs.table_encoding.partition_bytes.Reads as partition-bytes-reads
-use Rattle.slices.proofs.copy.Reads as copy-reads
 
--- src/table_encoding.rt:102:17
 partition-bytes-requires : tie.Need-partition-bytes-requires
 partition-bytes-requires c κs = search needs
 
--- src/table_encoding.rt:103:29
 slice-aggregate-copy : tie.Need-slice-aggregate-copy
 slice-aggregate-copy c = search needs
 
--- src/table_encoding.rt:103:5
 copy-requires : tie.Need-copy-requires
 copy-requires c κs = search needs
 
--- src/table_encoding.rt:104:40
 add-encode : tie.Need-add-encode
 add-encode c = search needs
 
--- src/table_encoding.rt:104:49
 add-encode-2 : tie.Need-add-encode-2
 add-encode-2 c = search needs
 
--- src/table_encoding.rt:104:29
 sub-encode : tie.Need-sub-encode
 sub-encode c = search needs
 
--- src/table_encoding.rt:104:29
 part-encode-start : tie.Need-part-encode-start
 part-encode-start c = search needs
 
--- src/table_encoding.rt:104:29
 part-encode-end : tie.Need-part-encode-end
 part-encode-end c = search needs
 
--- src/table_encoding.rt:104:5
 encode-requires : tie.Need-encode-requires
 encode-requires c κs = search needs
 
--- src/table_encoding.rt:95:1
 same-length : tie.Need-same-length
 same-length c = search needs
 
--- src/table_encoding.rt:95:1
 returns : tie.Need-returns
 unfolding slotBytes
 returns c = let a = c .before .before .before .before .before .before .before .before .before .before .before .before .before .args in
