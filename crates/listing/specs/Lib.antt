@@ -1,0 +1,6 @@
+-- Definitions that must be believed, in reading order.
+pub mod Text
+pub mod Listing
+-- Laws that the checker has shown.
+pub mod TextLaws
+pub mod RunLaws

@@ -1,0 +1,66 @@
+-- Definitions that must be believed: the bench run, from a pattern file to its text (document 01, "The bench run").
+use mathlib.Core.Bool.{cond, not}
+use mathlib.Core.List.{List, [], _∷_, _++_}
+use Prim.Native.Nat.{ℕ, zero, suc}
+use lib.Dec.{eqb, ltb}
+use lib.ListN.{length, drop}
+use Rattle.pattern.specs.Refusals.{_gives_, unless}
+use Rattle.supervisor.specs.Events.{load, run, refusal, afterCall}
+use Rattle.supervisor.specs.Operations.{System, system, slotOf, newOf, refusalBy, reportOf, writtenBytes}
+use Rattle.listing.specs.Text.{refusedLine, linesOf}
+
+-- a new table for a memory of 40,960 bytes
+abbrev pub fresh : List ℕ → System
+fresh memory = system (newOf 40960) memory
+
+-- single rounds until the status is not 1 or n are made
+unfoldable pub untilStopped : ℕ → System → System
+untilStopped zero x = x
+untilStopped (suc n) x = cond (eqb (slotOf x 0 .state .status) 1) (untilStopped n (afterCall (run 1) x)) x
+
+-- the file is loaded at slot 0, location 0, and runs
+unfoldable pub finished : List ℕ → List ℕ → System
+finished file memory = untilStopped 1000 (afterCall (load 0 0 file) (fresh memory))
+
+-- the number that refuses the file, 0 for none
+unfoldable pub fileRefusal : List ℕ → List ℕ → ℕ
+fileRefusal file memory =
+    refusalBy
+    (ltb 36895 (length file) gives 6
+    ∷ not (eqb (refusal (load 0 0 file) (fresh memory)) 0) gives refusal (load 0 0 file) (fresh memory)
+    ∷ [])
+
+-- the slot is reported on first, and then drained: draining takes status 4 away
+unfoldable pub linesAfter : System → List ℕ
+linesAfter x = linesOf (reportOf (x .table) 0) (writtenBytes x 0)
+
+unfoldable pub textOf : List ℕ → List ℕ → List ℕ
+textOf file memory = cond (eqb (fileRefusal file memory) 0) (linesAfter (finished file memory)) (refusedLine (fileRefusal file memory))
+
+-- the memory afterwards: as the rounds leave it, and as it was where the file is refused
+unfoldable pub memoryAfter : List ℕ → List ℕ → List ℕ
+memoryAfter file memory = cond (eqb (fileRefusal file memory) 0) (finished file memory .memory) memory
+
+-- the length of the longest text: two lines with 4,096 bytes of output
+abbrev pub longest : ℕ
+longest = 12326
+
+-- what a listing answers and leaves, as one value
+pub record Listing : Type 0 where
+  pub number : ℕ
+  pub size : ℕ
+  pub memory : List ℕ
+  pub text : List ℕ
+
+abbrev pub listed : ℕ → ℕ → List ℕ → List ℕ → Listing
+listed n size memory text = record { number = n; size = size; memory = memory; text = text }
+
+-- a listing that has no room for the longest text, or another memory, is refused and changes nothing; else the text stands at the
+-- front of the buffer and the rest is left
+unfoldable pub listingOf : List ℕ → List ℕ → List ℕ → Listing
+listingOf file memory text =
+    unless (λ n. listed n 0 memory text)
+    (ltb (length text) longest gives 16
+    ∷ not (eqb (length memory) 40960) gives 2
+    ∷ [])
+    (listed 0 (length (textOf file memory)) (memoryAfter file memory) (textOf file memory ++ drop (length (textOf file memory)) text))

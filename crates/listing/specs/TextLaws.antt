@@ -1,0 +1,51 @@
+-- Laws that the checker has shown: how long the pieces of the text are, and fields one behind the other.
+use mathlib.Core.List.{List, [], _∷_, _++_, append-assoc, append-nil}
+use mathlib.Core.Path.{_≡_, refl, sym, ap, _∙_}
+use Prim.Native.Nat.{ℕ, _+_, _*_, _≤_, _<_, _/_, _%_}
+use native.Mathlib.Numerals.{add-one}
+use native.Mathlib.Omega.{arith}
+use native.Mathlib.Decide.{decLt}
+use borrow.Author.Tests.{lt-ltb, le-ltb}
+use lib.ListN.{length, getD, take, length-append}
+use lib.Seq.{take-suc}
+use Rattle.supervisor.specs.declared.reported.Report.{Report}
+use Rattle.listing.specs.Text.{space, newline, hexByte, hexWord, decimal, fields, refusedLine, reportLine, outputLine, linesOf}
+
+pub field-length : (b : ℕ) → length (space ∷ hexByte b) ≡ 3
+unfolding hexByte
+field-length b = refl
+
+pub fields-length : (l : List ℕ) → length (fields l) ≡ 3 * length l
+unfolding fields hexByte
+fields-length [] = refl
+fields-length (b ∷ rest) = let h : length (fields rest) ≡ 3 * length rest = fields-length rest in omega arith
+
+pub fields-append : (a b : List ℕ) → fields (a ++ b) ≡ fields a ++ fields b
+unfolding fields
+fields-append [] b = refl
+fields-append (x ∷ a) b = ap (λ (l : List ℕ). (space ∷ hexByte x) ++ l) (fields-append a b) ∙ sym (append-assoc (space ∷ hexByte x) (fields a) (fields b))
+
+-- one byte more is one field more
+pub fields-more : (l : List ℕ) (i : ℕ) → i < length l → fields (take (i + 1) l) ≡ fields (take i l) ++ (space ∷ hexByte (getD l i 0))
+unfolding fields
+fields-more l i h =
+    ap (λ (n : ℕ). fields (take n l)) (add-one i)
+    ∙ ap fields (take-suc l i 0 h)
+    ∙ fields-append (take i l) (getD l i 0 ∷ [])
+    ∙ ap (λ (z : List ℕ). fields (take i l) ++ z) (append-nil (space ∷ hexByte (getD l i 0)))
+
+-- a number below 10 is one digit, and the others are two
+pub one-digit : (n : ℕ) → n < 10 → decimal n ≡ (48 + n) ∷ []
+unfolding decimal
+one-digit n h = rw (lt-ltb n 10 h)
+
+pub two-digits : (n : ℕ) → 10 ≤ n → decimal n ≡ (48 + n / 10) ∷ (48 + n % 10) ∷ []
+unfolding decimal
+two-digits n h = rw (le-ltb n 10 h)
+
+pub decimal-short : (n : ℕ) → length (decimal n) ≤ 2
+decimal-short n = go (decLt n 10)
+  where
+    go : Dec (n < 10) → length (decimal n) ≤ 2
+    go (yes p) = let h : length (decimal n) ≡ 1 = ap length (one-digit n p) in omega arith
+    go (no p) = let h : length (decimal n) ≡ 2 = ap length (two-digits n (omega arith)) in omega arith
