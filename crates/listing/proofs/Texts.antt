@@ -9,7 +9,8 @@ use lib.Seq.{take-all, length-take-le}
 use Rattle.slices.specs.Laws.{copied-front, copied-next, copied-whole}
 use Rattle.slices.specs.Slices.{copied}
 use Rattle.supervisor.specs.declared.reported.Report.{Report}
-use Rattle.listing.specs.Text.{space, newline, hexByte, hexWord, decimal, fields, refusedLine, reportLine, outputLine, linesOf}
+use Rattle.listing.specs.Ascii.{ascii}
+use Rattle.listing.specs.Text.{hexByte, hexWord, decimal, field, fields, refusedLine, reportLine, outputLine, linesOf}
 use Rattle.listing.specs.TextLaws.{field-length, fields-length, fields-append, fields-more, one-digit, decimal-short}
 
 -- ---- fields, in a loop
@@ -19,14 +20,14 @@ module _ (d : List ℕ) (at : ℕ) (bytes : List ℕ) (room : at + 3 * length by
   unfolding fields
   none-put = sym (copied-whole d at [] (omega arith) ∙ rw (append-nil, add-zero, take-append-drop))
 
-  pub one-more : (i : ℕ) (t u : List ℕ) → i < length bytes → t ≡ copied d at (fields (take i bytes)) → u ≡ copied t (at + 3 * i) (space ∷ hexByte (getD bytes i 0))
+  pub one-more : (i : ℕ) (t u : List ℕ) → i < length bytes → t ≡ copied d at (fields (take i bytes)) → u ≡ copied t (at + 3 * i) (field (getD bytes i 0))
       → u ≡ copied d at (fields (take (i + 1) bytes))
   one-more i t u h e f =
       let k : length (take i bytes) ≡ i = length-take-le i bytes (omega arith) in
       let l : length (fields (take i bytes)) ≡ 3 * i = fields-length (take i bytes) ∙ ap (λ (j : ℕ). 3 * j) k in
-      let n : length (space ∷ hexByte (getD bytes i 0)) ≡ 3 = field-length (getD bytes i 0) in
+      let n : length (field (getD bytes i 0)) ≡ 3 = field-length (getD bytes i 0) in
       rw (fields-more bytes i h)
-      (copied-next d t u at (at + 3 * i) (fields (take i bytes)) (space ∷ hexByte (getD bytes i 0)) e f (omega arith) (omega arith))
+      (copied-next d t u at (at + 3 * i) (fields (take i bytes)) (field (getD bytes i 0)) e f (omega arith) (omega arith))
 
   pub all-put : (i : ℕ) (t : List ℕ) → i ≤ length bytes → length bytes ≤ i → t ≡ copied d at (fields (take i bytes)) → t ≡ copied d at (fields bytes)
   all-put i t h g e = e ∙ ap (λ (l : List ℕ). copied d at (fields l)) (take-all i bytes g)
@@ -37,19 +38,16 @@ module _ (d : List ℕ) (at : ℕ) (bytes : List ℕ) (room : at + 3 * length by
 front-put : (d t s : List ℕ) (n : ℕ) → t ≡ copied d 0 s → length s ≤ length d → n ≡ length s → (n ≡ length s) × (t ≡ s ++ drop n d)
 front-put d t s n e fits k = (k, e ∙ copied-front d s fits ∙ ap (λ (i : ℕ). s ++ drop i d) (sym k))
 
-abbrev refusedWord : List ℕ
-refusedWord = 114 ∷ 101 ∷ 102 ∷ 117 ∷ 115 ∷ 101 ∷ 100 ∷ space ∷ []
-
-pub refused-put : (n k : ℕ) (t₀ t₁ t₂ t₃ : List ℕ) → 11 ≤ length t₀ → t₁ ≡ copied t₀ 0 refusedWord → (k ≡ length (decimal n)) × (t₂ ≡ copied t₁ 8 (decimal n)) → t₃ ≡ copied t₂ (8 + k) (newline ∷ [])
+pub refused-put : (n k : ℕ) (t₀ t₁ t₂ t₃ : List ℕ) → 11 ≤ length t₀ → t₁ ≡ copied t₀ 0 (ascii "refused ") → (k ≡ length (decimal n)) × (t₂ ≡ copied t₁ 8 (decimal n)) → t₃ ≡ copied t₂ (8 + k) (ascii "\n")
     → (8 + k + 1 ≡ length (refusedLine n)) × (t₃ ≡ refusedLine n ++ drop (8 + k + 1) t₀)
 unfolding refusedLine
 refused-put n k t₀ t₁ t₂ t₃ room e₁ e₂ e₃ =
     let few : length (decimal n) ≤ 2 = decimal-short n in
-    let long : length (refusedWord ++ decimal n) ≡ 8 + length (decimal n) = length-append refusedWord (decimal n) in
-    let whole : length (refusedWord ++ decimal n ++ (newline ∷ [])) ≡ 8 + length (decimal n) + 1 = length-append (refusedWord ++ decimal n) (newline ∷ []) ∙ ap (λ (i : ℕ). i + 1) long in
-    let one : t₂ ≡ copied t₀ 0 (refusedWord ++ decimal n) = copied-next t₀ t₁ t₂ 0 8 refusedWord (decimal n) e₁ (e₂ .1) refl (omega arith) in
-    let two : t₃ ≡ copied t₀ 0 (refusedWord ++ decimal n ++ (newline ∷ [])) =
-    copied-next t₀ t₂ t₃ 0 (8 + k) (refusedWord ++ decimal n) (newline ∷ []) one e₃ (omega (arith, e₂ .0)) (omega arith)
+    let long : length (ascii "refused " ++ decimal n) ≡ 8 + length (decimal n) = length-append (ascii "refused ") (decimal n) in
+    let whole : length (ascii "refused " ++ decimal n ++ ascii "\n") ≡ 8 + length (decimal n) + 1 = length-append (ascii "refused " ++ decimal n) (ascii "\n") ∙ ap (λ (i : ℕ). i + 1) long in
+    let one : t₂ ≡ copied t₀ 0 (ascii "refused " ++ decimal n) = copied-next t₀ t₁ t₂ 0 8 (ascii "refused ") (decimal n) e₁ (e₂ .1) refl (omega arith) in
+    let two : t₃ ≡ copied t₀ 0 (ascii "refused " ++ decimal n ++ ascii "\n") =
+    copied-next t₀ t₂ t₃ 0 (8 + k) (ascii "refused " ++ decimal n) (ascii "\n") one e₃ (omega (arith, e₂ .0)) (omega arith)
     in
     front-put t₀ t₃ _ (8 + k + 1) two (omega arith) (omega (arith, e₂ .0))
 
@@ -67,27 +65,27 @@ six a b c d e f = simp append-assoc
 
 module _ (r : Report) (o : List ℕ) (low : r .status < 10) (seven : length (r .registers) ≡ 7) where
   abbrev head : List ℕ
-  head = decimal (r .status) ++ (space ∷ hexWord (r .counter))
+  head = decimal (r .status) ++ ascii " " ++ hexWord (r .counter)
 
   abbrev values : List ℕ
   values = fields (r .psu ∷ r .psl ∷ r .registers)
 
   abbrev between : List ℕ
-  between = newline ∷ 111 ∷ 117 ∷ 116 ∷ []
+  between = ascii "\nout"
 
   head-length : length head ≡ 6
   unfolding hexWord hexByte
-  head-length = ap (λ (l : List ℕ). length (l ++ (space ∷ hexWord (r .counter)))) (one-digit (r .status) low)
+  head-length = ap (λ (l : List ℕ). length (l ++ ascii " " ++ hexWord (r .counter))) (one-digit (r .status) low)
 
   values-length : length values ≡ 27
   values-length = let h = fields-length (r .psu ∷ r .psl ∷ r .registers) in omega (arith, h, seven)
 
-  pieces : head ++ values ++ between ++ fields o ++ (newline ∷ []) ≡ linesOf r o
+  pieces : head ++ values ++ between ++ fields o ++ ascii "\n" ≡ linesOf r o
   unfolding linesOf reportLine outputLine
-  pieces = six head values (newline ∷ []) (111 ∷ 117 ∷ 116 ∷ []) (fields o) (newline ∷ [])
+  pieces = six head values (ascii "\n") (ascii "out") (fields o) (ascii "\n")
 
   pub lines-put : (t₀ t₁ t₂ t₃ t₄ t₅ : List ℕ) → 38 + 3 * length o ≤ length t₀ → t₁ ≡ copied t₀ 0 head → t₂ ≡ copied t₁ 6 values → t₃ ≡ copied t₂ 33 between
-      → t₄ ≡ copied t₃ 37 (fields o) → t₅ ≡ copied t₄ (37 + 3 * length o) (newline ∷ [])
+      → t₄ ≡ copied t₃ 37 (fields o) → t₅ ≡ copied t₄ (37 + 3 * length o) (ascii "\n")
       → (37 + 3 * length o + 1 ≡ length (linesOf r o)) × (t₅ ≡ linesOf r o ++ drop (37 + 3 * length o + 1) t₀)
   lines-put t₀ t₁ t₂ t₃ t₄ t₅ room e₁ e₂ e₃ e₄ e₅ =
       let a : length head ≡ 6 = head-length in
@@ -101,10 +99,10 @@ module _ (r : Report) (o : List ℕ) (low : r .status < 10) (seven : length (r .
       let four : t₄ ≡ copied t₀ 0 (head ++ values ++ between ++ fields o) =
       copied-next t₀ t₃ t₄ 0 37 (head ++ values ++ between) (fields o) three e₄ (omega arith) (omega arith)
       in
-      let five : t₅ ≡ copied t₀ 0 (head ++ values ++ between ++ fields o ++ (newline ∷ [])) =
-      copied-next t₀ t₄ t₅ 0 (37 + 3 * length o) (head ++ values ++ between ++ fields o) (newline ∷ []) four e₅ (omega arith) (omega arith)
+      let five : t₅ ≡ copied t₀ 0 (head ++ values ++ between ++ fields o ++ ascii "\n") =
+      copied-next t₀ t₄ t₅ 0 (37 + 3 * length o) (head ++ values ++ between ++ fields o) (ascii "\n") four e₅ (omega arith) (omega arith)
       in
-      let whole : length (head ++ values ++ between ++ fields o ++ (newline ∷ [])) ≡ 37 + 3 * length o + 1 =
-      length-append (head ++ values ++ between ++ fields o) (newline ∷ []) ∙ omega arith
+      let whole : length (head ++ values ++ between ++ fields o ++ ascii "\n") ≡ 37 + 3 * length o + 1 =
+      length-append (head ++ values ++ between ++ fields o) (ascii "\n") ∙ omega arith
       in
       rw (← pieces) (front-put t₀ t₅ _ (37 + 3 * length o + 1) five (omega arith) (omega arith))

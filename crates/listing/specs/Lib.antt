@@ -1,4 +1,5 @@
 -- Definitions that must be believed, in reading order.
+pub mod Ascii
 pub mod Text
 pub mod Listing
 -- Laws that the checker has shown.

@@ -8,31 +8,30 @@ use native.Mathlib.Decide.{decLt}
 use borrow.Author.Tests.{lt-ltb, le-ltb}
 use lib.ListN.{length, getD, take, length-append}
 use lib.Seq.{take-suc}
-use Rattle.supervisor.specs.declared.reported.Report.{Report}
-use Rattle.listing.specs.Text.{space, newline, hexByte, hexWord, decimal, fields, refusedLine, reportLine, outputLine, linesOf}
+use Rattle.listing.specs.Text.{hexByte, decimal, field, fields}
 
-pub field-length : (b : ℕ) → length (space ∷ hexByte b) ≡ 3
-unfolding hexByte
+pub field-length : (b : ℕ) → length (field b) ≡ 3
+unfolding field hexByte
 field-length b = refl
 
 pub fields-length : (l : List ℕ) → length (fields l) ≡ 3 * length l
-unfolding fields hexByte
+unfolding fields
 fields-length [] = refl
-fields-length (b ∷ rest) = let h : length (fields rest) ≡ 3 * length rest = fields-length rest in omega arith
+fields-length (b ∷ rest) = length-append (field b) (fields rest) ∙ omega (arith, field-length b, fields-length rest)
 
 pub fields-append : (a b : List ℕ) → fields (a ++ b) ≡ fields a ++ fields b
 unfolding fields
 fields-append [] b = refl
-fields-append (x ∷ a) b = ap (λ (l : List ℕ). (space ∷ hexByte x) ++ l) (fields-append a b) ∙ sym (append-assoc (space ∷ hexByte x) (fields a) (fields b))
+fields-append (x ∷ a) b = ap (λ (l : List ℕ). field x ++ l) (fields-append a b) ∙ sym (append-assoc (field x) (fields a) (fields b))
 
 -- one byte more is one field more
-pub fields-more : (l : List ℕ) (i : ℕ) → i < length l → fields (take (i + 1) l) ≡ fields (take i l) ++ (space ∷ hexByte (getD l i 0))
+pub fields-more : (l : List ℕ) (i : ℕ) → i < length l → fields (take (i + 1) l) ≡ fields (take i l) ++ field (getD l i 0)
 unfolding fields
 fields-more l i h =
     ap (λ (n : ℕ). fields (take n l)) (add-one i)
     ∙ ap fields (take-suc l i 0 h)
     ∙ fields-append (take i l) (getD l i 0 ∷ [])
-    ∙ ap (λ (z : List ℕ). fields (take i l) ++ z) (append-nil (space ∷ hexByte (getD l i 0)))
+    ∙ ap (λ (z : List ℕ). fields (take i l) ++ z) (append-nil (field (getD l i 0)))
 
 -- a number below 10 is one digit, and the others are two
 pub one-digit : (n : ℕ) → n < 10 → decimal n ≡ (48 + n) ∷ []

@@ -5,19 +5,20 @@ ghost use mathlib.Core.Path.{_≡_};
 ghost use Prim.Native.Nat.{_+_, _*_, _≤_, _<_};
 ghost use lib.ListN.{length, drop};
 ghost use Rattle.slices.specs.Slices.{copied};
-ghost use Rattle.listing.specs.Text.{space, hexDigit, hexByte, hexWord, decimal, fields, refusedLine, linesOf};
+ghost use Rattle.listing.specs.Ascii.{ascii};
+ghost use Rattle.listing.specs.Text.{hexDigit, hexWord, decimal, field, fields, refusedLine, linesOf};
 
 // A digit of a number below 16: the letters are capitals.
 fn hex_digit(n: u8) -> u8
     requires { ⌜ n < 16 ⌝ }
     ensures { λ r. ⌜ r ≡ hexDigit n ⌝ }
 {
-    if n < 10 { b'0' + n } else { 55 + n }
+    if n < 10 { b'0' + n } else { b'A' + (n - 10) }
 }
 
 // A byte as a field: a space and two digits.
 fn put_field(byte: u8, text: &mut [u8], at: usize)
-    ensures { λ _. ⌜ now (text .exit) ≡ copied (now (text .entry)) at (space ∷ hexByte byte) ⌝ }
+    ensures { λ _. ⌜ now (text .exit) ≡ copied (now (text .entry)) at (field byte) ⌝ }
 {
     let field = [b' ', hex_digit(byte / 16), hex_digit(byte % 16)];
     slices::copy(text, at, &field);
@@ -37,7 +38,7 @@ fn put_fields(bytes: &[u8], text: &mut [u8], at: usize)
 // A status of one digit, and a counter.
 fn put_head(status: u8, counter: u16, text: &mut [u8])
     requires { ⌜ status < 10 ⌝ }
-    ensures { λ _. ⌜ now (text .exit) ≡ copied (now (text .entry)) 0 (decimal status ++ (space ∷ hexWord counter)) ⌝ }
+    ensures { λ _. ⌜ now (text .exit) ≡ copied (now (text .entry)) 0 (decimal status ++ ascii " " ++ hexWord counter) ⌝ }
 {
     let high = (counter / 256) as u8;
     let low = (counter % 256) as u8;

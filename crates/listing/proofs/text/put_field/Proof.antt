@@ -1,3 +1,4 @@
+use Rattle.listing.specs.Text.{hexByte, field}
 use Rattle.listing.specs.Text.{hexByte}
 use mathlib.Core.Path.{_∙_}
 use borrow.Author.Needs.{needs}
@@ -30,7 +31,7 @@ same-length c = search needs
 
 -- src/text.rt:19:1
 returns : tie.Need-returns
-unfolding hexByte
+unfolding hexByte field
 returns c = rw (← c .before .before .before .before .before .before .hex-digit .ensures, ← c .before .before .before .before .before .hex-digit2 .ensures) (c .before .before .copy .ensures)
 
 pub put-field-spec : {M : Type 1} → statement M
