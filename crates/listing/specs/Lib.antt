@@ -5,3 +5,5 @@ pub mod Listing
 -- Laws that the checker has shown.
 pub mod TextLaws
 pub mod RunLaws
+pub mod Lone
+pub mod Cases

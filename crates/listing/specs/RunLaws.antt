@@ -1,8 +1,8 @@
 -- Laws that the checker has shown: the bench run's slot stays sound and loaded, so that its report and its output bytes fit the text.
 use mathlib.Core.Bool.{Bool, true, false, cond, _&&_, false≢true}
 use mathlib.Core.List.{List}
-use mathlib.Core.Path.{_≡_, refl, sym, ap, _∙_, subst⁻¹}
-use Prim.Native.Nat.{ℕ, zero, suc, _+_, _-_, _*_, _≤_, _<_}
+use mathlib.Core.Path.{_≡_, refl, sym, ap, _∙_}
+use Prim.Native.Nat.{ℕ, zero, suc, _+_, _-_, _≤_, _<_}
 use native.Mathlib.Omega.{arith}
 use borrow.Author.Tests.{eq-eqb, leb-true, le-ltb, lt-ltb, ltb-true}
 use lib.Dec.{eqb, ltb, leb}
@@ -13,11 +13,11 @@ use Rattle.pattern.specs.Refusals.{unless}
 use Rattle.pattern.specs.Values.{within}
 use Rattle.slices.specs.Laws.{part-length}
 use Rattle.supervisor.specs.Effects.{load-accepted, load-keeps}
-use Rattle.supervisor.specs.Events.{load, run, refusal, effect, accepted, afterCall}
-use Rattle.supervisor.specs.Operations.{System, system, slotOf, emptySlot, newOf, newRefusal, refusalBy, partitionFor, freshState, afterLoad, afterRun, drainRefusal, writtenBytes, drainedCount, drainedBuffer, reportRefusal, reportOf}
+use Rattle.supervisor.specs.Events.{load, run, refusal, effect, afterCall}
+use Rattle.supervisor.specs.Operations.{System, slotOf, emptySlot, newOf, newRefusal, refusalBy, freshState, afterLoad, afterRun, drainRefusal, writtenBytes, drainedCount, drainedBuffer, reportRefusal, reportOf}
 use Rattle.supervisor.specs.Rounds.{Good, Moved, rounds-moved, slot-inside}
 use Rattle.supervisor.specs.Soundness.{Loaded, loaded-slot, put-same, sound-fact, sound-test}
-use Rattle.supervisor.specs.Table.{allBelow, allLow, allZero, apart, clearOf, isEmpty, partitionSound, slotAt, slotSound, sound, stateSound, withSlot, zeroPartition, zeroState}
+use Rattle.supervisor.specs.Table.{allBelow, allZero, apart, clearOf, isEmpty, partitionSound, slotAt, slotSound, sound, zeroPartition, zeroState}
 use Rattle.supervisor.specs.Theorem.{run-accepted}
 use Rattle.supervisor.specs.declared.table.Partition.{Partition}
 use Rattle.listing.specs.Listing.{fresh, untilStopped, finished}
@@ -104,6 +104,9 @@ module _ (x : System) (r : Ready x) where
   unfolding reportOf
   status-low = rw (report-accepted) (let h = held .state .most in omega arith)
 
+  pub written-fits : slotOf x 0 .state .written ≤ slotOf x 0 .partition .output
+  written-fits = held .state .written
+
   pub written-few : slotOf x 0 .state .written ≤ 4096
   unfolding partitionSound
   written-few =
@@ -112,14 +115,14 @@ module _ (x : System) (r : Ready x) where
       let b = both (within (p .window) 32768 && within (p .input) 4096 && within (p .output) 4096) _ (a .0) in
       let d = both (within (p .window) 32768 && within (p .input) 4096) _ (b .0) in
       let most : p .output ≤ 4096 = leb-true _ _ (both (leb 1 (p .output)) _ (d .1) .1) in
-      let few = held .state .written in
+      let few = written-fits in
       omega arith
 
   pub written-length : length (writtenBytes x 0) ≡ slotOf x 0 .state .written
   unfolding writtenBytes
   written-length =
       let inside = slot-inside x (r .good) 0 (omega arith) in
-      let few = held .state .written in
+      let few = written-fits in
       part-length (x .memory) (slotOf x 0 .partition .base + slotOf x 0 .partition .window + slotOf x 0 .partition .input) (slotOf x 0 .state .written) (omega arith)
 
   drain-accepted : (room : ℕ) → 4096 ≤ room → drainRefusal x 0 room ≡ 0

@@ -4,7 +4,6 @@ use mathlib.Core.Bool.{cond}
 use mathlib.Core.List.{List, [], _∷_, _++_}
 use Prim.Native.Char.{code}
 use Prim.Native.Nat.{ℕ, _+_, _-_, _/_, _%_}
-use Prim.Native.String.{String}
 use lib.Dec.{ltb}
 use Rattle.supervisor.specs.declared.reported.Report.{Report}
 use Rattle.listing.specs.Ascii.{ascii}

@@ -161,8 +161,8 @@ module _ (x : System) (g : Good x) (k location : ℕ) (file : List ℕ) (a : Loa
   in-range : Ranges (valuesOf file)
   in-range = read-ranges file (valuesOf file) (a .read)
 
-  bytes-loaded : length (loadedBytes file) ≡ bytesIn placed
-  unfolding loadedBytes placed partitionFor
+  pub bytes-loaded : length (loadedBytes file) ≡ bytesIn (partitionFor location (valuesOf file))
+  unfolding loadedBytes partitionFor
   bytes-loaded =
       let first : List ℕ = padded (valuesOf file .window) (codeOf file) in
       let second : List ℕ = padded (valuesOf file .input) (inputOf file) in

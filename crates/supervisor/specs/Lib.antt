@@ -9,4 +9,3 @@ pub mod Machines
 pub mod Rounds
 pub mod Effects
 pub mod Theorem
-pub mod Cases

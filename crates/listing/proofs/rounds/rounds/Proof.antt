@@ -1,8 +1,7 @@
-use Prim.Native.Nat.{ℕ}
 use mathlib.Core.Path.{_≡_, refl, sym, ap, _∙_}
 use native.Mathlib.Omega.{arith}
 use lib.ListN.{length}
-use Rattle.supervisor.specs.Operations.{System, system}
+use Rattle.supervisor.specs.Operations.{system}
 use Rattle.supervisor.specs.Events.{Outcome, outcomeOf}
 use Rattle.listing.specs.Listing.{untilStopped}
 use Rattle.listing.specs.RunLaws.{until-more, until-done, taken-more}

@@ -1,4 +1,4 @@
-use mathlib.Core.Path.{sym, ap, _∙_}
+use mathlib.Core.Path.{sym, ap}
 use lib.ListN.{length}
 use Rattle.listing.specs.TextLaws.{one-digit, two-digits}
 use borrow.Author.Needs.{needs}

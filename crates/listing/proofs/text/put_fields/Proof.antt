@@ -1,9 +1,7 @@
-use Prim.Native.Nat.{ℕ, _+_, _*_, _-_, _≤_}
-use mathlib.Core.List.{List}
-use mathlib.Core.Path.{_≡_, refl, sym, ap, _∙_}
+use Prim.Native.Nat.{_-_, _≤_}
+use mathlib.Core.Path.{_≡_, refl, _∙_}
 use native.Mathlib.Omega.{arith}
 use lib.ListN.{length, take}
-use Rattle.slices.specs.Laws.{copied-length}
 use Rattle.slices.specs.Slices.{copied}
 use Rattle.listing.specs.Text.{fields}
 use Rattle.listing.proofs.Texts.{none-put, one-more, all-put}

@@ -1,4 +1,3 @@
-use mathlib.Core.Path.{_∙_}
 use Rattle.listing.specs.Text.{hexByte, hexWord}
 use Rattle.listing.specs.TextLaws.{one-digit}
 use borrow.Author.Needs.{needs}
