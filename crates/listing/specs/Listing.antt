@@ -1,7 +1,7 @@
 -- Definitions that must be believed: the bench run, from a pattern file to its text (document 01, "The bench run").
 use mathlib.Core.Bool.{cond, not}
 use mathlib.Core.List.{List, [], _∷_, _++_}
-use Prim.Native.Nat.{ℕ, zero, suc}
+use Prim.Native.Nat.{ℕ, zero, suc, _+_, _*_}
 use lib.Dec.{eqb, ltb}
 use lib.ListN.{length, drop}
 use Rattle.pattern.specs.Refusals.{_gives_, unless}
@@ -41,9 +41,9 @@ textOf file memory = cond (eqb (fileRefusal file memory) 0) (linesAfter (finishe
 unfoldable pub memoryAfter : List ℕ → List ℕ → List ℕ
 memoryAfter file memory = cond (eqb (fileRefusal file memory) 0) (finished file memory .memory) memory
 
--- the length of the longest text: two lines with 4,096 bytes of output
+-- the length of the longest text, 12,326: the first line with its newline, `out`, 4,096 bytes of output as fields, a newline
 abbrev pub longest : ℕ
-longest = 12326
+longest = 34 + 3 + 4096 * 3 + 1
 
 -- what a listing answers and leaves, as one value
 pub record Listing : Type 0 where
