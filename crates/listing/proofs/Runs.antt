@@ -14,7 +14,8 @@ use Rattle.supervisor.specs.Table.{isEmpty}
 use Rattle.supervisor.specs.declared.reported.Report.{Report}
 use Rattle.supervisor.specs.declared.table.Table.{Table}
 use Rattle.listing.specs.Text.{refusedLine, linesOf}
-use Rattle.listing.specs.Listing.{fresh, untilStopped, finished, fileRefusal, linesAfter, textOf, memoryAfter, listed, listingOf}
+use Rattle.listing.specs.Listing.{fresh, finished, fileRefusal, linesAfter, textOf, memoryAfter, listed, listingOf}
+use Rattle.listing.specs.Rounds.{untilStopped}
 use Rattle.listing.specs.RunLaws.{Ready, finished-ready, status-low, written-few, written-length, drained-front}
 
 -- ---- report and output

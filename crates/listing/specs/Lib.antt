@@ -1,5 +1,6 @@
 -- Definitions that must be believed, in reading order.
 pub mod Ascii
+pub mod Rounds
 pub mod Text
 pub mod Listing
 -- Laws that the checker has shown.

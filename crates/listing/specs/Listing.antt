@@ -1,22 +1,18 @@
 -- Definitions that must be believed: the bench run, from a pattern file to its text (document 01, "The bench run").
 use mathlib.Core.Bool.{cond, not}
 use mathlib.Core.List.{List, [], _∷_, _++_}
-use Prim.Native.Nat.{ℕ, zero, suc, _+_, _*_}
+use Prim.Native.Nat.{ℕ, _+_, _*_}
 use lib.Dec.{eqb, ltb}
 use lib.ListN.{length, drop}
 use Rattle.pattern.specs.Refusals.{_gives_, unless}
-use Rattle.supervisor.specs.Events.{load, run, refusal, afterCall}
-use Rattle.supervisor.specs.Operations.{System, system, slotOf, newOf, refusalBy, reportOf, writtenBytes}
+use Rattle.supervisor.specs.Events.{load, refusal, afterCall}
+use Rattle.supervisor.specs.Operations.{System, system, newOf, refusalBy, reportOf, writtenBytes}
+use Rattle.listing.specs.Rounds.{untilStopped}
 use Rattle.listing.specs.Text.{refusedLine, linesOf}
 
 -- a new table for a memory of 40,960 bytes
 abbrev pub fresh : List ℕ → System
 fresh memory = system (newOf 40960) memory
-
--- single rounds until the status is not 1 or n are made
-unfoldable pub untilStopped : ℕ → System → System
-untilStopped zero x = x
-untilStopped (suc n) x = cond (eqb (slotOf x 0 .state .status) 1) (untilStopped n (afterCall (run 1) x)) x
 
 -- the file is loaded at slot 0, location 0, and runs
 unfoldable pub finished : List ℕ → List ℕ → System

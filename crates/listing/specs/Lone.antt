@@ -20,7 +20,8 @@ use Rattle.supervisor.specs.Table.{bytesIn, sizesOf, machineIn}
 use Rattle.supervisor.specs.declared.reported.Report.{Report}
 use Rattle.supervisor.specs.declared.table.Slot.{Slot}
 use Rattle.supervisor.specs.declared.table.Partition.{Partition}
-use Rattle.listing.specs.Listing.{fresh, untilStopped, finished, fileRefusal, linesAfter, textOf}
+use Rattle.listing.specs.Listing.{fresh, finished, fileRefusal, linesAfter, textOf}
+use Rattle.listing.specs.Rounds.{untilStopped}
 use Rattle.listing.specs.RunLaws.{Ready, fresh-good, load-effect, load-ready, run-effect, run-ready, finished-ready, report-accepted, written-fits}
 use Rattle.listing.specs.Text.{linesOf}
 

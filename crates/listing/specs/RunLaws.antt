@@ -20,7 +20,8 @@ use Rattle.supervisor.specs.Soundness.{Loaded, loaded-slot, put-same, sound-fac
 use Rattle.supervisor.specs.Table.{allBelow, allZero, apart, clearOf, isEmpty, partitionSound, slotAt, slotSound, sound, zeroPartition, zeroState}
 use Rattle.supervisor.specs.Theorem.{run-accepted}
 use Rattle.supervisor.specs.declared.table.Partition.{Partition}
-use Rattle.listing.specs.Listing.{fresh, untilStopped, finished}
+use Rattle.listing.specs.Listing.{fresh, finished}
+use Rattle.listing.specs.Rounds.{untilStopped}
 
 -- a sound table with its memory, and a pattern in slot 0
 pub record Ready (x : System) : Type 0 where

@@ -4,7 +4,7 @@ ghost use mathlib.Core.Path.{_≡_};
 ghost use lib.Dec.{eqb};
 ghost use Rattle.supervisor.specs.Operations.{system};
 ghost use Rattle.supervisor.specs.Table.{slotAt};
-ghost use Rattle.listing.specs.Listing.{untilStopped};
+ghost use Rattle.listing.specs.Rounds.{untilStopped};
 
 fn is_running(table: Table) -> bool
     ensures { λ r. ⌜ r ≡ eqb (slotAt table 0 .state .status) 1 ⌝ }

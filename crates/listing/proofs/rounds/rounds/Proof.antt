@@ -3,7 +3,7 @@ use native.Mathlib.Omega.{arith}
 use lib.ListN.{length}
 use Rattle.supervisor.specs.Operations.{system}
 use Rattle.supervisor.specs.Events.{Outcome, outcomeOf}
-use Rattle.listing.specs.Listing.{untilStopped}
+use Rattle.listing.specs.Rounds.{untilStopped}
 use Rattle.listing.specs.RunLaws.{until-more, until-done, taken-more}
 use Rattle.listing.proofs.rounds.rounds.Statement.{statement}
 use Rattle.listing.proofs.rounds.rounds.Tie as tie
