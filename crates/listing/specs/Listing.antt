@@ -33,7 +33,7 @@ linesAfter x = linesOf (reportOf (x .table) 0) (writtenBytes x 0)
 unfoldable pub textOf : List ℕ → List ℕ → List ℕ
 textOf file memory = cond (eqb (fileRefusal file memory) 0) (linesAfter (finished file memory)) (refusedLine (fileRefusal file memory))
 
--- the memory afterwards: as the rounds leave it, and as it was where the file is refused
+-- the memory afterwards: as the rounds leave it, since a drain changes no byte of it; as it was where the file is refused
 unfoldable pub memoryAfter : List ℕ → List ℕ → List ℕ
 memoryAfter file memory = cond (eqb (fileRefusal file memory) 0) (finished file memory .memory) memory
 
