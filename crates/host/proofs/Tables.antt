@@ -14,14 +14,6 @@ use Rattle.supervisor.specs.declared.table.Table.{Table}
 use Rattle.host.specs.TableEncoding.{fourOf, slotBytes, slotsBytes, tableBytes}
 use Rattle.host.specs.TableRoundTrip.{four-length}
 
--- a part that was lent and comes back with other bytes
-pub put-back : (l y : List ℕ) (at n : ℕ) → length y ≡ n → at + n ≤ length l → take at l ++ (y ++ drop n (drop at l)) ≡ copied l at y
-put-back l y at n e h =
-    let back : drop n (drop at l) ≡ drop (at + length y) l = drop-drop n at l ∙ ap (λ (k : ℕ). drop (at + k) l) (sym e) in
-    ap (λ (r : List ℕ). take at l ++ (y ++ r)) back
-    ∙ sym (append-assoc (take at l) y (drop (at + length y) l))
-    ∙ sym (copied-whole l at y (omega arith))
-
 -- ---- slots in a loop: l is what the buffer holds when it starts, m what it holds after k slots
 
 abbrev pub soFar : Table → ℕ → List ℕ

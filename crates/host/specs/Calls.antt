@@ -11,7 +11,7 @@ use Rattle.supervisor.specs.Events.{Call, load, unload, feed, drain, run, repor
 use Rattle.supervisor.specs.Operations.{System, system, refusalBy, newRefusal, newOf, drainedCount, drainedBuffer, reportRefusal, reportOf}
 use Rattle.supervisor.specs.declared.reported.Report.{Report}
 use Rattle.supervisor.specs.declared.table.Table.{Table}
-use Rattle.host.specs.Encoding.{pairOf}
+use Rattle.encoding.specs.Encoding.{pairOf}
 use Rattle.host.specs.TableEncoding.{tableAt, tableBytes}
 
 -- an answer: the refusal, 0 for none, and how many bytes were handed over, 0 where none are

@@ -20,7 +20,7 @@ use Rattle.pattern.specs.declared.reader.Answer.the-variants.{Accepted, Refused
 use Rattle.pattern.specs.declared.values.Values.{Values}
 use Rattle.pattern.specs.declared.writer.Written.the-variants.{Length}
 use Rattle.slices.specs.Slices.{partOf}
-use Rattle.host.specs.Encoding.{numberAt}
+use Rattle.encoding.specs.Encoding.{numberAt}
 use Rattle.host.specs.PatternFiles.{stretchOf, ifRead, codePlace, inputPlace, codeStretch, inputStretch, valuesAt}
 
 -- the stretch of a file that a number names

@@ -14,7 +14,7 @@ use Rattle.pattern.specs.declared.values.Values.{Values}
 use Rattle.pattern.specs.declared.writer.Written.{Written}
 use Rattle.pattern.specs.declared.writer.Written.the-variants.{Length, Failed}
 use Rattle.host.specs.Calls.{answerOf, Answered, answered}
-use Rattle.host.specs.Encoding.{numberAt}
+use Rattle.encoding.specs.Encoding.{numberAt}
 
 -- ---- reading
 

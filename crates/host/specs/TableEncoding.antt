@@ -15,7 +15,7 @@ use Rattle.slices.specs.Slices.{partOf}
 use Rattle.supervisor.specs.declared.table.Partition.{Partition}
 use Rattle.supervisor.specs.declared.table.Slot.{Slot}
 use Rattle.supervisor.specs.declared.table.Table.{Table}
-use Rattle.host.specs.Encoding.{bytesOf, numberAt, pairOf, stateOf}
+use Rattle.encoding.specs.Encoding.{bytesOf, numberAt, pairOf, stateOf}
 
 -- ---- from a table to its bytes
 

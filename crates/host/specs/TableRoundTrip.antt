@@ -14,8 +14,8 @@ use Rattle.slices.specs.Slices.{Bytes, partOf}
 use Rattle.supervisor.specs.declared.table.Partition.{Partition}
 use Rattle.supervisor.specs.declared.table.Slot.{Slot}
 use Rattle.supervisor.specs.declared.table.Table.{Table}
-use Rattle.host.specs.Encoding.{bytesOf, cpuAt, numberAt, pairOf, pairsOf, registersAt, returnsAt, stateOf}
-use Rattle.host.specs.RoundTrip.{table, decoded, encoded, pair-law, spelled, spelled-same}
+use Rattle.encoding.specs.Encoding.{bytesOf, cpuAt, numberAt, pairOf, pairsOf, registersAt, returnsAt, stateOf}
+use Rattle.encoding.specs.RoundTrip.{table, decoded, encoded, pair-law, spelled, spelled-same}
 use Rattle.host.specs.TableEncoding.{fourOf, partitionBytes, slotBytes, slotsBytes, tableBytes, fourAt, partitionAt, slotFrom, slotsFrom, tableAt}
 
 -- a state has seven registers and eight return addresses, and a table eight slots: in the code by their types

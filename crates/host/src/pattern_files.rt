@@ -5,9 +5,9 @@ ghost use Rattle.pattern.specs.Writer.{partitionBody};
 ghost use Rattle.host.specs.Calls.{answered};
 ghost use Rattle.host.specs.PatternFiles.{codeStretch, hostRead, hostWrite, inputStretch, stretchOf, valuesAt};
 use crate::calls::answer;
-use crate::encoding::byte;
-use crate::encoding::number;
+use encoding::number;
 use pattern::Values;
+use slices::byte;
 
 // The length of the body of `PB`.
 const VALUES: usize = 9;

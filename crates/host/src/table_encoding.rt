@@ -4,8 +4,8 @@ ghost use Prim.Native.Nat.{_+_, _*_, _≤_};
 ghost use lib.ListN.{length};
 ghost use Rattle.slices.specs.Slices.{copied, partOf};
 ghost use Rattle.host.specs.TableEncoding.{fourAt, fourOf, partitionAt, partitionBytes, slotBytes, slotFrom, tableAt, tableBytes};
-use crate::encoding::byte;
-use crate::encoding::number;
+use encoding::number;
+use slices::byte;
 use supervisor::Partition;
 use supervisor::Slot;
 use supervisor::Table;
@@ -40,7 +40,7 @@ fn decode_slot(bytes: &[u8], at: usize) -> Slot
 {
     let own = slices::part(bytes, at, 45);
     let partition = decode_partition(own);
-    let state = crate::encoding::decode(slices::rest(own, 11));
+    let state = encoding::decode(slices::rest(own, 11));
     Slot { partition, state }
 }
 
@@ -101,7 +101,8 @@ fn put_slot(bytes: &mut [u8], at: usize, slot: Slot)
     let state = slot.state;
     let front = partition_bytes(partition);
     slices::copy(bytes, at, &front);
-    crate::encoding::encode(&mut bytes[at + 11..at + 45], state);
+    let back = encoding::encode(state);
+    slices::copy(bytes, at + 11, &back);
 }
 
 pub(crate) fn encode_table(bytes: &mut [u8], table: Table)

@@ -38,6 +38,7 @@ fn put_outcome(table: Table, memory: &[u8], text: &mut [u8]) -> usize
     requires { ⌜ longest ≤ length (now text) ⌝ }
     ensures { λ r. ⌜ r ≡ length (linesAfter (system table (now (memory .entry)))) ⌝ }
     ensures { λ r. ⌜ now (text .exit) ≡ linesAfter (system table (now (memory .entry))) ++ drop r (now (text .entry)) ⌝ }
+    ensures { λ r. ⌜ r ≤ longest ⌝ }
 {
     let report = supervisor::report(table, 0);
     let mut output = [0u8; 4096];
@@ -52,6 +53,7 @@ fn put_text(file: &[u8], memory: &mut [u8], text: &mut [u8]) -> usize
     ensures { λ r. ⌜ r ≡ length (textOf (now (file .entry)) (now (memory .entry))) ⌝ }
     ensures { λ _. ⌜ now (memory .exit) ≡ memoryAfter (now (file .entry)) (now (memory .entry)) ⌝ }
     ensures { λ r. ⌜ now (text .exit) ≡ textOf (now (file .entry)) (now (memory .entry)) ++ drop r (now (text .entry)) ⌝ }
+    ensures { λ r. ⌜ r ≤ longest ⌝ }
 {
     if Listed::FILE < file.len() {
         return put_refused(6, text);
@@ -68,9 +70,11 @@ fn put_text(file: &[u8], memory: &mut [u8], text: &mut [u8]) -> usize
 }
 
 // The bench run. Whether there is room is a test of the buffer's length alone, made before anything is touched, so that a refusal
-// changes neither the memory nor the buffer.
+// changes neither the memory nor the buffer. The equation gives the length; that it is never above the longest is said beside it for
+// callers that keep it in 16 bits.
 pub fn listing(file: &[u8], memory: &mut [u8], text: &mut [u8]) -> Listed
     ensures { λ r. ⌜ listed (r .refusal) (r .length) (now (memory .exit)) (now (text .exit)) ≡ listingOf (now (file .entry)) (now (memory .entry)) (now (text .entry)) ⌝ }
+    ensures { λ r. ⌜ r .length ≤ longest ⌝ }
 {
     if text.len() < Listed::LONGEST {
         return Listed {

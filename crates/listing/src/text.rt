@@ -70,6 +70,7 @@ pub(crate) fn put_lines(report: Report, output: &[u8], text: &mut [u8]) -> usize
     requires { ⌜ 38 + 3 * length (now output) ≤ length (now text) ⌝ }
     ensures { λ r. ⌜ r ≡ length (linesOf report (now (output .entry))) ⌝ }
     ensures { λ r. ⌜ now (text .exit) ≡ linesOf report (now (output .entry)) ++ drop r (now (text .entry)) ⌝ }
+    ensures { λ r. ⌜ r ≡ 38 + 3 * length (now (output .entry)) ⌝ }
 {
     put_head(report.status, report.counter, text);
     put_values(report, text);
@@ -100,6 +101,7 @@ pub(crate) fn put_refused(n: u8, text: &mut [u8]) -> usize
     requires { ⌜ 11 ≤ length (now text) ⌝ }
     ensures { λ r. ⌜ r ≡ length (refusedLine n) ⌝ }
     ensures { λ r. ⌜ now (text .exit) ≡ refusedLine n ++ drop r (now (text .entry)) ⌝ }
+    ensures { λ r. ⌜ r ≤ 11 ⌝ }
 {
     slices::copy(text, 0, b"refused ");
     let end = 8 + put_decimal(n, text, 8);

@@ -2,10 +2,10 @@
 use Prim.Native.Nat.{ℕ, zero, suc, _+_, _-_, _≤_, _<_}
 use mathlib.Core.Bool.{Bool, true, false, cond}
 use mathlib.Core.Path.{_≡_, refl, sym, ap, subst⁻¹, _∙_}
-use mathlib.Core.List.{List, [], _∷_, _++_, append-assoc}
+use mathlib.Core.List.{List, [], _∷_, _++_, append-assoc, append-nil}
 use native.Mathlib.Nat.{add-assoc, add-zero, zero-add, suc-add}
 use native.Mathlib.Omega.{arith}
-use lib.ListN.{length, getD, take, drop, replicate, length-append, length-take, length-drop, length-replicate, getD-replicate}
+use lib.ListN.{length, getD, take, drop, replicate, length-append, length-take, length-drop, drop-of-length-le, length-replicate, getD-replicate}
 use lib.Seq.{take-at, drop-at, take-nil, drop-nil, drop-drop, take-take, take-append-le, drop-append-le, take-append-seam, getD-take, getD-drop, length-take-le}
 use lib.Dec.{leb}
 use borrow.Author.Tests.{leb-true, le-leb, lt-leb}
@@ -144,6 +144,11 @@ copied-next d e f at n s t first second place h =
 -- a source at the very front
 pub copied-front : (d s : List ℕ) → length s ≤ length d → copied d 0 s ≡ s ++ drop (length s) d
 copied-front d s h = copied-whole d 0 s (omega arith) ∙ rw zero-add
+
+-- a source of the whole length
+pub copied-all : (d s : List ℕ) → length s ≡ length d → copied d 0 s ≡ s
+copied-all d s h =
+    copied-front d s (omega arith) ∙ ap (λ (l : List ℕ). s ++ l) (drop-of-length-le d {i = length s} (omega arith)) ∙ append-nil s
 
 -- a fill is a copy, so copied-length, copied-before, part-before-copy and byte-before-copy hold of it as they stand; the others, by its n
 module _ (d : List ℕ) (at n b : ℕ) where

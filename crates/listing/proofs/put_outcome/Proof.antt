@@ -44,7 +44,7 @@ same-length c = search needs
 
 -- src/lib.rt:35:1
 returns : tie.Need-returns
-returns c = let x : System = system (c .before .before .before .before .before .before .before .before .before .before .before .before .args .table) (c .before .before .before .before .before .before .before .before .before .before .before .before .args .memory .now) in let drained : c .before .before .before .before .front .result .now ≡ writtenBytes x 0 = output-drained x (c .before .before .before .before .before .before .before .before .before .before .before .before .pre .0) (c .before .before .before .before .before .before .before .before .before .before .before .before .pre .1 .0) _ _ _ _ (length-replicate {A = ℕ} 4096 0) (c .before .before .before .before .before .before .before .drain .ensures .1 .0) (c .before .before .before .before .before .before .before .drain .ensures .1 .1) (c .before .before .before .before .front .ensures) in lines-after x (c .before .before .before .before .before .before .before .before .before .before .before .before .pre .0) (c .before .before .before .before .before .before .before .before .before .before .before .before .pre .1 .0) _ _ _ _ _ (c .before .before .before .before .before .before .before .before .before .report .ensures) drained (c .before .before .put-lines .ensures)
+returns c = let x : System = system (c .before .before .before .before .before .before .before .before .before .before .before .before .args .table) (c .before .before .before .before .before .before .before .before .before .before .before .before .args .memory .now) in let drained : c .before .before .before .before .front .result .now ≡ writtenBytes x 0 = output-drained x (c .before .before .before .before .before .before .before .before .before .before .before .before .pre .0) (c .before .before .before .before .before .before .before .before .before .before .before .before .pre .1 .0) _ _ _ _ (length-replicate {A = ℕ} 4096 0) (c .before .before .before .before .before .before .before .drain .ensures .1 .0) (c .before .before .before .before .before .before .before .drain .ensures .1 .1) (c .before .before .before .before .front .ensures) in let put = c .before .before .put-lines .ensures in let lines = lines-after x (c .before .before .before .before .before .before .before .before .before .before .before .before .pre .0) (c .before .before .before .before .before .before .before .before .before .before .before .before .pre .1 .0) _ _ _ _ _ (c .before .before .before .before .before .before .before .before .before .report .ensures) drained (put .0, put .1 .0) in (lines .0, (lines .1, omega (arith, put .1 .1, output-fits x (c .before .before .before .before .before .before .before .before .before .before .before .before .pre .0) (c .before .before .before .before .before .before .before .before .before .before .before .before .pre .1 .0) _ drained)))
 
 pub put-outcome-spec : {M : Type 1} → statement M
 put-outcome-spec =

@@ -1,3 +1,4 @@
+use native.Mathlib.Omega.{arith}
 use Rattle.listing.proofs.Runs.{long-text, refused-load, end-good, end-loaded, finished-text}
 use borrow.Author.Needs.{needs}
 use Rattle.listing.proofs.put_text.Statement.{statement}
@@ -20,7 +21,7 @@ same-length c = search needs
 
 -- src/lib.rt:57:9
 returns : tie.Need-returns
-returns c = long-text (c .before .before .before .before .before .before .before .before .args .file .now) (c .before .before .before .before .before .before .before .before .args .memory .now) _ _ _ (c .before .before .before .before .if1 .taken) (c .before .before .put-refused .ensures)
+returns c = let put = c .before .before .put-refused .ensures in let text = long-text (c .before .before .before .before .before .before .before .before .args .file .now) (c .before .before .before .before .before .before .before .before .args .memory .now) _ _ _ (c .before .before .before .before .if1 .taken) (put .0, put .1 .0) in (text .0, (text .1 .0, (text .1 .1, omega (arith, put .1 .1))))
 
 -- src/lib.rt:59:9
 new-requires : tie.Need-new-requires
@@ -44,7 +45,7 @@ same-length-3 c = search needs
 
 -- src/lib.rt:63:9
 returns-2 : tie.Need-returns-2
-returns-2 c = refused-load _ _ (c .before .before .before .before .before .before .before .before .before .before .before .before .if1 .left) _ _ _ _ (c .before .before .before .before .before .before .before .before .before .before .before .new .ensures .1) (c .before .before .before .before .before .before .before .before .load .ensures) _ _ _ (c .before .before .before .before .if2 .taken) (c .before .before .put-refused2 .ensures)
+returns-2 c = let put = c .before .before .put-refused2 .ensures in let text = refused-load _ _ (c .before .before .before .before .before .before .before .before .before .before .before .before .if1 .left) _ _ _ _ (c .before .before .before .before .before .before .before .before .before .before .before .new .ensures .1) (c .before .before .before .before .before .before .before .before .load .ensures) _ _ _ (c .before .before .before .before .if2 .taken) (put .0, put .1 .0) in (text .0, (text .1 .0, (text .1 .1, omega (arith, put .1 .1))))
 
 -- src/lib.rt:66:9
 rounds-requires : tie.Need-rounds-requires
@@ -64,7 +65,7 @@ same-length-5 c = search needs
 
 -- src/lib.rt:49:1
 returns-3 : tie.Need-returns-3
-returns-3 c = finished-text _ _ (c .before .before .before .before .before .before .before .before .before .before .before .before .before .before .before .before .before .before .if1 .left) _ _ _ _ (c .before .before .before .before .before .before .before .before .before .before .before .before .before .before .before .before .before .new .ensures .1) (c .before .before .before .before .before .before .before .before .before .before .before .before .before .before .load .ensures) (c .before .before .before .before .before .before .before .before .before .before .if2 .left) (c .before .before .before .before .before .before .before .before .before .before .before .before .before .before .before .before .before .before .before .before .before .before .pre .0) _ _ (c .before .before .before .before .before .before .before .rounds .ensures) _ _ _ (c .before .before .put-outcome .ensures)
+returns-3 c = let put = c .before .before .put-outcome .ensures in let text = finished-text _ _ (c .before .before .before .before .before .before .before .before .before .before .before .before .before .before .before .before .before .before .if1 .left) _ _ _ _ (c .before .before .before .before .before .before .before .before .before .before .before .before .before .before .before .before .before .new .ensures .1) (c .before .before .before .before .before .before .before .before .before .before .before .before .before .before .load .ensures) (c .before .before .before .before .before .before .before .before .before .before .if2 .left) (c .before .before .before .before .before .before .before .before .before .before .before .before .before .before .before .before .before .before .before .before .before .before .pre .0) _ _ (c .before .before .before .before .before .before .before .rounds .ensures) _ _ _ (put .0, put .1 .0) in (text .0, (text .1 .0, (text .1 .1, omega (arith, put .1 .1))))
 
 pub put-text-spec : {M : Type 1} → statement M
 put-text-spec =

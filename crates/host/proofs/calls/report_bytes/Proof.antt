@@ -3,8 +3,8 @@ use lib.ListN.{length}
 use mathlib.Core.List.{List, [], _∷_, _++_}
 use mathlib.Core.Path.{_≡_, sym, ap}
 use Rattle.host.specs.Calls.{reportBytes}
-use Rattle.host.specs.Encoding.{pairOf}
-use Rattle.host.specs.RoundTrip.{table-all}
+use Rattle.encoding.specs.Encoding.{pairOf}
+use Rattle.encoding.specs.RoundTrip.{table-all}
 use borrow.Author.Needs.{needs}
 use Rattle.host.proofs.calls.report_bytes.Statement.{statement}
 use Rattle.host.proofs.calls.report_bytes.Tie as tie

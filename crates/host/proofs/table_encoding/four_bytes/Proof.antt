@@ -1,5 +1,5 @@
 use Rattle.host.specs.TableEncoding.{fourOf}
-use Rattle.host.specs.Encoding.{pairOf}
+use Rattle.encoding.specs.Encoding.{pairOf}
 use mathlib.Core.Path.{refl}
 use borrow.Author.Needs.{needs}
 use Rattle.host.proofs.table_encoding.four_bytes.Statement.{statement}

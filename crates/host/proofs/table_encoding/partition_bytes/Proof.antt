@@ -1,5 +1,5 @@
 use Rattle.host.specs.TableEncoding.{fourOf, partitionBytes}
-use Rattle.host.specs.Encoding.{pairOf}
+use Rattle.encoding.specs.Encoding.{pairOf}
 use borrow.Author.Needs.{needs}
 use Rattle.host.proofs.table_encoding.partition_bytes.Statement.{statement}
 use Rattle.host.proofs.table_encoding.partition_bytes.Tie as tie

@@ -43,7 +43,7 @@ same-length c = search needs
 
 -- src/text.rt:107:1
 returns : tie.Need-returns
-returns c = refused-put _ _ _ _ _ _ (c .before .before .before .before .before .before .before .before .before .before .before .before .before .before .before .pre) (c .before .before .before .before .before .before .before .before .before .before .before .copy .ensures) (c .before .before .before .before .before .before .before .put-decimal .ensures) (c .before .before .copy2 .ensures)
+returns c = let put = refused-put _ _ _ _ _ _ (c .before .before .before .before .before .before .before .before .before .before .before .before .before .before .before .pre) (c .before .before .before .before .before .before .before .before .before .before .before .copy .ensures) (c .before .before .before .before .before .before .before .put-decimal .ensures) (c .before .before .copy2 .ensures) in (put .0, (put .1, omega (arith, c .before .before .before .before .before .before .before .put-decimal .ensures .0, decimal-short (c .before .before .before .before .before .before .before .before .before .before .before .before .before .before .before .args .n))))
 
 pub put-refused-spec : {M : Type 1} → statement M
 put-refused-spec =

@@ -1,0 +1,24 @@
+use lib.Seq.{set-out}
+use mathlib.Core.Path.{sym}
+use borrow.Author.Needs.{needs}
+use Rattle.encoding.proofs.put.Statement.{statement}
+use Rattle.encoding.proofs.put.Tie as tie
+
+-- src/encoding.rt:99:9
+slice-write-bytes : tie.Need-slice-write-bytes
+slice-write-bytes c = search needs
+
+-- src/encoding.rt:95:1
+same-length : tie.Need-same-length
+same-length c = search needs
+
+-- src/encoding.rt:95:1
+returns : tie.Need-returns
+returns c = search needs
+
+-- src/encoding.rt:95:1
+returns-2 : tie.Need-returns-2
+returns-2 c = sym (set-out (c .before .args .bytes .now) _ _ (c .if1 .left))
+
+pub put-spec : {M : Type 1} → statement M
+put-spec = tie.close (tie.spec slice-write-bytes same-length returns returns-2)

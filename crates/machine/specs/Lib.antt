@@ -1,0 +1,2 @@
+-- Definitions that must be believed.
+pub mod Run

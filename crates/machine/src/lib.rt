@@ -1,0 +1,37 @@
+// One machine as an entry point for C: for measuring, and for tests. It stands in an archive of its own, so that in this one and in that of crate
+// host the run of a machine has one caller, and is compiled into it.
+mod rounds;
+
+ghost use mathlib.Core.Path.{_≡_};
+ghost use Prim.Native.Nat.{_*_};
+ghost use Rattle.machine.specs.Run.{leftBy, machineRunOf, sizesOf};
+use cpu::Sizes;
+
+// Runs one machine: `rounds` times `quantum` steps over its partition. The state is the 34 bytes of crate encoding;
+// with another length nothing is touched and the answer is 1, else it is 0.
+#[no_mangle]
+pub extern "C" fn pf_machine_run(
+    state: &mut [u8],
+    partition: &mut [u8],
+    window: u16,
+    input: u16,
+    output: u16,
+    quantum: u64,
+    rounds: u64,
+) -> u8
+    ensures { λ answer. ⌜ leftBy answer (sizesOf window input output) (now (state .exit)) (now (partition .exit)) ≡ machineRunOf (sizesOf window input output) (now (state .entry)) (now (partition .entry)) (rounds * quantum) ⌝ }
+{
+    if state.len() != 34 {
+        return 1;
+    }
+    let sizes = Sizes {
+        window,
+        input,
+        output,
+    };
+    let start = encoding::decode(&state[..]);
+    let end = rounds::run(start, partition, sizes, quantum, rounds);
+    let bytes = encoding::encode(end);
+    slices::copy(state, 0, &bytes);
+    0
+}
