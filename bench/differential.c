@@ -1,166 +1,289 @@
-#include "differential.h"
-#include "twin.h"
+/* Random lists of calls on random floors, through the entry points and the reference, compared after every call.
+ *
+ *     differential SEED CALLS [STEPS]    at least so many calls, and then on to at least so many steps
+ *
+ * Each list starts from its own seed, which is made of the last one's: one list alone can be run again by its seed. */
+#include "calls.h"
+#include "codec.h"
+#include "random.h"
+#include "tables.h"
 #include <inttypes.h>
+#include <signal.h>
 #include <stdio.h>
+#include <stdlib.h>
 #include <string.h>
 
-/* splitmix64: each case has the seed after the last one's, so that one case alone can be run again */
-static uint64_t random_state;
-
-static uint64_t random64(void)
-{
-    uint64_t z = (random_state += 0x9E3779B97F4A7C15u);
-    z = (z ^ z >> 30) * 0xBF58476D1CE4E5B9u;
-    z = (z ^ z >> 27) * 0x94D049BB133111EBu;
-    return z ^ z >> 31;
-}
-
-static unsigned below(unsigned n) { return (unsigned)(random64() % n); }
-static int one_in(unsigned n) { return below(n) == 0; }
-
-/* small ones, ones about a page's end, and any up to the largest */
-static uint16_t random_window(void)
-{
-    switch (below(8)) {
-    case 0: return (uint16_t)(1 + below(8));
-    case 1: return (uint16_t)(8192 * (1 + below(4)) - 4 + below(8) - (one_in(2) ? 0 : 1));
-    case 2: return (uint16_t)(1 + below(32768));
-    case 3: return 32768;
-    default: return (uint16_t)(16 + below(600));
-    }
-}
-
-static uint16_t random_capacity(void) { return (uint16_t)(one_in(8) ? 1 + below(4096) : 1 + below(24)); }
-
-static sizes random_sizes(void)
-{
-    uint16_t window = random_window();
-    if (window > 32768) window = 32768;
-    return (sizes){ window, random_capacity(), random_capacity() };
-}
-
-/* codes at which a machine stops at once: a window without them runs longer */
-static int stops(uint8_t code)
-{
-    static const uint8_t unknown[] = { 0x00, 0x10, 0x11, 0x90, 0x91, 0xB6, 0xB7, 0xC4, 0xC5, 0xC6, 0xC7, 0x40 };
-    for (size_t i = 0; i < sizeof unknown; i++)
-        if (code == unknown[i]) return 1;
-    return (code & 0x7C) == 0x30 || (code & 0x7C) == 0x54;
-}
-
-static void random_bytes(uint8_t *p, size_t n, int lasting)
-{
-    for (size_t i = 0; i < n; i++) {
-        p[i] = (uint8_t)random64();
-        while (lasting && stops(p[i]) && !one_in(16)) p[i] = (uint8_t)random64();
-    }
-}
-
-/* anywhere, most often inside the window, often where a page ends */
-static uint16_t random_address(const twin *t)
-{
-    if (one_in(16)) return (uint16_t)below(32768);
-    if (one_in(4)) return (uint16_t)((8192 * (1 + below(4)) - 3 + below(6)) % 32768);
-    return (uint16_t)below(t->size.window);
-}
-
-/* statuses 3 and 4 as a sound machine has them: nothing unread, output full */
-static uint8_t random_status(ref2650 *m)
-{
-    if (!one_in(32)) return ST_RUN;
-    uint8_t status = (uint8_t)(1 + below(7));
-    if (status == ST_WANTS) m->read = m->filled;
-    if (status == ST_FULL) m->written = m->ocap;
-    return status;
-}
-
-/* any sound state */
-static void random_machine(twin *t)
-{
-    ref2650 *m = &t->reference;
-    m->pc = random_address(t);
-    m->r0 = (uint8_t)random64();
-    random_bytes(&m->bank[0][0], sizeof m->bank, 0);
-    m->psu = (uint8_t)(random64() & PSU_STORED);
-    m->psl = (uint8_t)random64();
-    for (int i = 0; i < 8; i++) m->ras[i] = random_address(t);
-    m->filled = (uint16_t)below(m->icap + 1u);
-    m->read = (uint16_t)below(m->filled + 1u);
-    m->written = (uint16_t)below(m->ocap + 1u);
-    m->status = random_status(m);
-}
+/* A run of so many calls must have met each refusal that the header lists at each call, and each status. */
+enum { FULL_RUN = 200000 };
 
 typedef struct {
-    uint64_t cases, machines, pieces, steps, stopped[8];
-    uint8_t met[256];  /* first bytes of instructions with which a piece began */
+    uint64_t seed, calls, steps;
+} wanted;
+
+typedef struct {
+    uint64_t lists, calls, steps, damaged, still_sound, written_outside;
+    uint64_t met[KINDS][REFUSALS];
+    uint64_t statuses[8];           /* of all slots after each pf_run that was done */
 } counts;
 
-static void note_code(const twin *t, counts *n)
-{
-    const ref2650 *m = &t->reference;
-    if (m->status == ST_RUN && m->pc < m->wsize) n->met[m->window[m->pc]] = 1;
-}
+/* ---- floors */
 
-/* Pieces of random length until the machine stops or a few are done. */
-static const char *run_pieces(twin *t, counts *n)
+static size_t memory_length(void)
 {
-    unsigned left = 1 + below(12);
-    do {
-        uint64_t quantum = one_in(8) ? below(256) : below(12);
-        uint64_t rounds = one_in(8) ? below(20) : below(4);
-        note_code(t, n);
-        n->steps += twin_run(t, quantum, rounds);
-        n->pieces++;
-        const char *what = twin_difference(t);
-        if (what) return what;
-    } while (--left && t->reference.status == ST_RUN);
-    return NULL;
-}
-
-/* One case: a window, and machines started in it one after the other, each in what the last one left. */
-static const char *run_case(uint64_t seed, counts *n)
-{
-    random_state = seed;
-    twin t = twin_new(random_sizes(), below(3) * below(40));
-    random_bytes(t.reference.window, t.size.window, !one_in(4));
-    random_bytes(t.reference.in, (size_t)t.size.input + t.size.output, 0);
-    unsigned machines = t.size.window > 1000 ? 200 : 20;
-    const char *what = NULL;
-    while (machines-- && !what) {
-        random_machine(&t);
-        twin_same(&t);
-        what = run_pieces(&t, n);
-        n->machines++;
-        n->stopped[t.reference.status & 7]++;
+    switch (below(12)) {
+    case 0: return between(1, 64);
+    case 1: return 65536;
+    case 2: return between(1, 65536);
+    default: return between(300, 9000);
     }
-    n->cases++;
-    twin_free(&t);
-    return what;
 }
 
-static void print_counts(uint64_t seed, const counts *n)
+static void give_table(floor_pair *f)
 {
-    int met = 0;
-    for (int i = 0; i < 256; i++) met += n->met[i];
-    printf("%" PRIu64 " steps from seed %" PRIu64 ": no difference\n", n->steps, seed);
-    printf("%" PRIu64 " windows, %" PRIu64 " machines, %" PRIu64 " pieces compared; %d of 256 codes began a piece\n",
-           n->cases, n->machines, n->pieces, met);
-    printf("ended with status");
-    for (int i = 1; i < 8; i++) printf(" %d: %" PRIu64 "%s", i, n->stopped[i], i < 7 ? "," : "\n");
+    encode_table(&f->record, f->table.reference);
+    pair_same(&f->table);
 }
 
-int differential(uint64_t seed, uint64_t steps)
+/* A memory of random bytes; a table of random bytes, which is most likely not sound, or a sound one. */
+static floor_pair floor_new(int sound)
 {
-    counts n;
-    memset(&n, 0, sizeof n);
-    do {
-        const char *what = run_case(seed + n.cases, &n);
-        if (what) {
-            printf("DIFFERENT: %s, after %" PRIu64 " steps in all\nagain: make differential SEED=%" PRIu64 " STEPS=1\n",
-                   what, n.steps, seed + n.cases - 1);
-            return 1;
+    floor_pair f;
+    f.table = pair_new("table", PF_TABLE_BYTES);
+    f.memory = pair_new("memory", memory_length());
+    decode_table(f.table.reference, &f.record);
+    if (sound) {
+        table_random(&f.record, f.memory.reference, f.memory.length);
+        pair_same(&f.memory);
+        give_table(&f);
+    }
+    return f;
+}
+
+static void floor_free(floor_pair *f)
+{
+    pair_free(&f->table);
+    pair_free(&f->memory);
+}
+
+/* ---- what happens between calls */
+
+/* The host changes some bytes of the memory: anywhere, or where a machine is. */
+static void write_outside(floor_pair *f)
+{
+    const ref_station *s = &f->record.s[below(STATIONS)];
+    size_t at = one_in(2) ? below(f->memory.length) : s->bay + (size_t)s->pc, n = between(1, 16);
+    for (size_t i = at; i < at + n && i < f->memory.length; i++) f->memory.reference[i] = (uint8_t)random64();
+    pair_same(&f->memory);
+}
+
+static void disturb(floor_pair *f, counts *n)
+{
+    if (one_in(10)) {
+        write_outside(f);
+        n->written_outside++;
+    }
+    if (one_in(14)) {
+        table_damage(&f->record);
+        give_table(f);
+        n->damaged++;
+        n->still_sound += ref_sound(&f->record);
+    }
+}
+
+/* After a call the list goes on with the table, if it is sound and for this memory, or with the last one that was
+ * (`good`). A new table for another length gets a memory of it. */
+static void settle(floor_pair *f, const call *c, uint8_t good[PF_TABLE_BYTES])
+{
+    if (c->kind == CALL_NEW && !c->refusal && c->length != f->memory.length) {
+        pair_free(&f->memory);
+        f->memory = pair_new("memory", c->length);
+    }
+    if (ref_sound(&f->record) && f->record.length == f->memory.length) {
+        encode_table(&f->record, good);
+    } else {
+        decode_table(good, &f->record);
+        give_table(f);
+    }
+}
+
+/* ---- how to see a difference again */
+
+/* what runs now: a call that does not return must be told too */
+static struct {
+    const char *program;
+    enum kind kind;
+    uint64_t seed, calls, list_seed, list_calls;
+} now;
+
+static void print_again(void)
+{
+    printf("seed %" PRIu64 ", call %" PRIu64 "\n", now.seed, now.calls);
+    printf("again: %s %" PRIu64 " %" PRIu64 "\n", now.program, now.seed, now.calls);
+    printf("its list alone: %s %" PRIu64 " %" PRIu64 "\n", now.program, now.list_seed, now.list_calls);
+}
+
+static void print_difference(const call *c, const difference *d)
+{
+    printf("DIFFERENT: ");
+    call_print(c);
+    printf("%s", d->where);
+    if (d->at != NO_PLACE) printf(", byte %zu", d->at);
+    printf(": %s", d->what);
+    if (d->product != d->expected) printf(": product %02X, expected %02X (hexadecimal)", d->product, d->expected);
+    printf("\n");
+    print_again();
+}
+
+/* After a fault there is nothing to go on with, and all that is printed stands in `now`. */
+static void fault(int number)
+{
+    printf("DIFFERENT: %s ended by signal %d\n", call_names[now.kind], number);
+    print_again();
+    fflush(stdout);
+    _Exit(1);
+}
+
+static void tell_faults(void)
+{
+    static const int faults[] = { SIGSEGV, SIGILL, SIGFPE, SIGABRT };
+    for (size_t i = 0; i < sizeof faults / sizeof faults[0]; i++) signal(faults[i], fault);
+}
+
+/* ---- lists of calls */
+
+static enum kind some_kind(const ref_record *r)
+{
+    static const uint8_t shares[KINDS] = { 1, 23, 8, 13, 12, 25, 6, 3, 3, 3, 3 };
+    size_t n = below(100), k = 0, taken = 0;
+    while (n >= shares[k]) n -= shares[k++];
+    for (size_t i = 0; i < STATIONS; i++) taken += r->s[i].status != ST_EMPTY;
+    return k == CALL_LOAD && taken == STATIONS && !one_in(4) ? CALL_UNLOAD : (enum kind)k;
+}
+
+static void count(const call *c, const floor_pair *f, counts *n)
+{
+    n->calls++;
+    n->steps += c->steps;
+    n->met[c->kind][c->refusal % REFUSALS]++;
+    if (c->kind != CALL_RUN || c->refusal) return;
+    for (size_t k = 0; k < STATIONS; k++) n->statuses[f->record.s[k].status & 7]++;
+}
+
+static int enough(const counts *n, const wanted *w) { return n->calls >= w->calls && n->steps >= w->steps; }
+
+static int one_call(floor_pair *f, enum kind kind, uint8_t *good, counts *n)
+{
+    call c;
+    now.kind = kind;
+    now.calls++;
+    now.list_calls++;
+    call_make(&c, kind, f);
+    difference d = call_difference(&c, f);
+    count(&c, f, n);
+    if (d.what) print_difference(&c, &d);
+    else settle(f, &c, good);
+    call_free(&c);
+    return d.what == NULL;
+}
+
+/* Answers whether all calls were alike; it ends with the first that is not. */
+static int run_list(uint64_t seed, const wanted *w, counts *n)
+{
+    random_seed(seed);
+    now.list_seed = seed;
+    now.list_calls = 0;
+    int sound = one_in(2);
+    uint8_t good[PF_TABLE_BYTES];
+    floor_pair f = floor_new(sound);
+    ref_record fresh;
+    ref_fresh_record(&fresh, f.memory.length);
+    encode_table(sound ? &f.record : &fresh, good);
+    int alike = sound || one_call(&f, CALL_NEW, good, n);
+    for (size_t left = between(20, 300); left && alike && !enough(n, w); left--) {
+        disturb(&f, n);
+        alike = one_call(&f, some_kind(&f.record), good, n);
+    }
+    floor_free(&f);
+    n->lists++;
+    return alike;
+}
+
+/* a linear congruence with the full period: seeds that lie close together have lists that do not */
+static uint64_t next_seed(uint64_t seed) { return seed * 6364136223846793005u + 1442695040888963407u; }
+
+/* ---- the summary */
+
+static void print_row(const char *name, const uint64_t row[REFUSALS])
+{
+    uint64_t all = 0;
+    for (size_t r = 0; r < REFUSALS; r++) all += row[r];
+    printf("%-10s%9" PRIu64, name, all);
+    for (size_t r = 0; r < REFUSALS; r++) printf(" %6" PRIu64, row[r]);
+    printf("\n");
+}
+
+static void print_counts(const wanted *w, const counts *n)
+{
+    uint64_t all[REFUSALS] = { 0 };
+    printf("seed %" PRIu64 ": %" PRIu64 " calls in %" PRIu64 " lists, at least %" PRIu64 " steps: no difference\n",
+           w->seed, n->calls, n->lists, n->steps);
+    printf("%-10s%9s", "refusal", "all");
+    for (int r = 0; r < REFUSALS; r++) printf(" %6d", r);
+    printf("\n");
+    for (int k = 0; k < KINDS; k++) {
+        print_row(call_names[k], n->met[k]);
+        for (int r = 0; r < REFUSALS; r++) all[r] += n->met[k][r];
+    }
+    print_row("all", all);
+    printf("slots after pf_run, by status:");
+    for (int s = 0; s < 8; s++) printf(" %d: %" PRIu64 "%s", s, n->statuses[s], s < 7 ? "," : "\n");
+    printf("tables damaged: %" PRIu64 ", of these still sound: %" PRIu64 "\n", n->damaged, n->still_sound);
+    printf("memory written from outside: %" PRIu64 " times\n", n->written_outside);
+}
+
+/* Each refusal is met at the calls that the header lists it for, in a full run, and at no other. */
+static int refusals_missing(const counts *n)
+{
+    int missing = 0;
+    for (int k = 0; k < KINDS; k++)
+        for (int r = 0; r < REFUSALS; r++) {
+            int listed = call_refusals[k] >> r & 1, met = n->met[k][r] != 0;
+            if (met ? listed : !listed || n->calls < FULL_RUN) continue;
+            printf("%s: %s %d\n", met ? "NOT LISTED IN THE HEADER" : "NOT MET", call_names[k], r);
+            missing = 1;
         }
-    } while (n.steps < steps);
-    print_counts(seed, &n);
-    return 0;
+    return missing;
+}
+
+static int statuses_missing(const counts *n)
+{
+    int missing = 0;
+    for (int s = 0; s < 8 && n->calls >= FULL_RUN; s++)
+        if (!n->statuses[s]) {
+            printf("NOT MET: status %d\n", s);
+            missing = 1;
+        }
+    return missing;
+}
+
+static int compare(const char *program, const wanted *w)
+{
+    static counts n;
+    now.program = program;
+    now.seed = w->seed;
+    for (uint64_t seed = w->seed; !enough(&n, w); seed = next_seed(seed))
+        if (!run_list(seed, w, &n)) return 1;
+    print_counts(w, &n);
+    return refusals_missing(&n) | statuses_missing(&n);
+}
+
+int main(int argc, char **argv)
+{
+    if (argc < 3 || argc > 4) {
+        fprintf(stderr, "usage: %s SEED CALLS [STEPS]\n", argv[0]);
+        return 2;
+    }
+    wanted w = { strtoull(argv[1], NULL, 10), strtoull(argv[2], NULL, 10), argc > 3 ? strtoull(argv[3], NULL, 10) : 0 };
+    tell_faults();
+    return compare(argv[0], &w);
 }

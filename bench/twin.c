@@ -12,7 +12,7 @@ twin twin_new(sizes size, size_t behind)
     t.size = size;
     t.partition = lent_new(partition_length(size));
     t.bytes = lent_new(partition_length(size) + behind);
-    t.state = lent_new(STATE_BYTES);
+    t.state = lent_new(PF_STATE_BYTES);
     memset(t.bytes.bytes, BEHIND, t.bytes.length);
     t.reference.wsize = size.window;
     t.reference.icap = size.input;
@@ -72,7 +72,7 @@ static const struct { const char *name; size_t at, length; } fields[] = {
 
 static const char *state_difference(const twin *t)
 {
-    uint8_t expected[STATE_BYTES];
+    uint8_t expected[PF_STATE_BYTES];
     twin_encode(&t->reference, expected);
     for (size_t i = 0; i < sizeof fields / sizeof fields[0]; i++)
         if (memcmp(expected + fields[i].at, t->state.bytes + fields[i].at, fields[i].length)) return fields[i].name;

@@ -2,7 +2,7 @@
 #ifndef TWIN_H
 #define TWIN_H
 #include "lent.h"
-#include "product.h"
+#include "pattern_floor.h"
 #include "reference/ref2650.h"
 
 typedef struct {

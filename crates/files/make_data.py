@@ -12,29 +12,12 @@ refusal's number, 0 for none; window, input, output, start, quantum; place and l
 the packed file. A packed file is pieces: a two-byte count and that many bytes; or 32,768 and a count, and one byte to repeat.
 """
 import sys
+from pathlib import Path
+
+sys.path.append(str(Path(__file__).resolve().parents[1] / "vectors"))
+from bench_text import vectors
 
 LARGEST = 36895
-
-
-def vectors(path):
-    """name, file, expected lines of the bench run"""
-    found = []
-    for line in open(path):
-        line = line.rstrip("\n")
-        if line.startswith("V "):
-            name, size, text = [part.strip() for part in line[2:].split("|")]
-            file = b""
-            for piece in [] if text == "-" else text.split(","):
-                if "*" in piece:
-                    byte, times = piece.split("*")
-                    file += bytes([int(byte, 16)]) * int(times)
-                else:
-                    file += bytes.fromhex(piece)
-            assert len(file) == int(size), name
-            found.append((name, file, []))
-        elif line.startswith("= "):
-            found[-1][2].append(line[2:])
-    return found
 
 
 class Refused(Exception):

@@ -10,26 +10,7 @@ the bytes, of the run, of the bytes), the byte of each run, then the name, the t
 import itertools
 import sys
 
-
-def vectors(path):
-    """name, file, text"""
-    found = []
-    for line in open(path):
-        line = line.rstrip("\n")
-        if line.startswith("V "):
-            name, size, pieces = [part.strip() for part in line[2:].split("|")]
-            file = b""
-            for piece in [] if pieces == "-" else pieces.split(","):
-                if "*" in piece:
-                    byte, times = piece.split("*")
-                    file += bytes([int(byte, 16)]) * int(times)
-                else:
-                    file += bytes.fromhex(piece)
-            assert len(file) == int(size), name
-            found.append([name, file, ""])
-        elif line.startswith("= "):
-            found[-1][2] += line[2:] + "\n"
-    return found
+from bench_text import vectors
 
 
 def runs(file):
@@ -44,7 +25,8 @@ def runs(file):
     return (sorted(longest) + [(len(file), 0, 0)] * 2)[:2]
 
 
-def entry(name, file, text):
+def entry(name, file, lines):
+    text = "".join(line + "\n" for line in lines)
     (at, size, byte), (at2, size2, byte2) = runs(file)
     head, middle, tail = file[:at], file[at + size:at2], file[at2 + size2:]
     assert head + bytes([byte]) * size + middle + bytes([byte2]) * size2 + tail == file

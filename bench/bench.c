@@ -1,0 +1,50 @@
+/* The bench program for hosts: runs a pattern file through the entry points of the proved archive. */
+#include "pattern_floor.h"
+#include "listing.h"
+#include "speed.h"
+#include "vectors.h"
+#include <stdio.h>
+#include <string.h>
+
+static int usage(void)
+{
+    fprintf(stderr,
+            "usage: bench [FILE]          prints the two lines of a pattern file, or of standard input\n"
+            "       bench --vectors DATA  makes the stored bench runs and compares\n"
+            "       bench --speed DIR     prints instructions a second of the patterns in DIR, beside the reference's\n");
+    return 2;
+}
+
+static int list(FILE *f)
+{
+    /* one byte more than the longest file, so that a longer one is seen as such */
+    static uint8_t file[PF_FILE_MOST + 1];
+    static char text[PF_LISTING_BYTES + 1];
+    size_t length = fread(file, 1, sizeof file, f);
+    if (ferror(f)) {
+        perror("bench");
+        return 2;
+    }
+    return fwrite(text, 1, listing(file, length, text), stdout) == 0;
+}
+
+static int list_file(const char *path)
+{
+    FILE *f = fopen(path, "rb");
+    if (!f) {
+        perror(path);
+        return 2;
+    }
+    int failed = list(f);
+    fclose(f);
+    return failed;
+}
+
+int main(int argc, char **argv)
+{
+    if (argc == 1) return list(stdin);
+    if (argc == 3 && !strcmp(argv[1], "--vectors")) return vectors(argv[2]);
+    if (argc == 3 && !strcmp(argv[1], "--speed")) return speed(argv[2]);
+    if (argc == 2 && argv[1][0] != '-') return list_file(argv[1]);
+    return usage();
+}

@@ -1,0 +1,48 @@
+/* One random call through an entry point and through the reference: what is lent, both answers, what differs. */
+#ifndef CALLS_H
+#define CALLS_H
+#include "pair.h"
+#include "pattern_floor.h"
+#include "reference/ref_floor.h"
+
+/* A floor twice: the product's table and memory as lent bytes, the reference's as its record and memory. */
+typedef struct {
+    ref_record record;
+    pair table, memory;         /* of the table, the reference's bytes are its record's, as codec.c has them */
+} floor_pair;
+
+enum kind {
+    CALL_NEW, CALL_LOAD, CALL_UNLOAD, CALL_FEED, CALL_DRAIN, CALL_RUN, CALL_REPORT,
+    CALL_READ, CALL_CODE, CALL_INPUT, CALL_WRITE, KINDS
+};
+
+extern const char *const call_names[KINDS];
+
+/* The refusals that the header lists for each call, and 0, as bits. Of pf_code and pf_input: the reader's. */
+extern const uint32_t call_refusals[KINDS];
+
+enum { REFUSALS = 17, LENT_MOST = 6 };
+
+typedef struct {
+    enum kind kind;
+    size_t slot, location, length;
+    uint16_t rounds;
+    pair *table, *memory;       /* the floor's, or one of another length among those lent */
+    pair lent[LENT_MOST];       /* buffers for this call alone */
+    size_t lents;
+    uint32_t answer, expected;
+    unsigned refusal;           /* the reference's */
+    uint64_t steps;             /* of slots that still run after pf_run: see calls.c */
+} call;
+
+/* Makes a call of that kind with random arguments, most of them sensible for the floor as it stands. */
+void call_make(call *c, enum kind kind, floor_pair *f);
+
+/* The first byte or answer that is not as it must be. */
+difference call_difference(const call *c, floor_pair *f);
+
+/* The call and its arguments, on one line. */
+void call_print(const call *c);
+
+void call_free(call *c);
+#endif

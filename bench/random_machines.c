@@ -1,0 +1,154 @@
+#include "random_machines.h"
+#include "random.h"
+#include "twin.h"
+#include <inttypes.h>
+#include <stdio.h>
+#include <string.h>
+
+/* small ones, ones about a page's end, and any up to the largest */
+static uint16_t random_window(void)
+{
+    switch (below(8)) {
+    case 0: return (uint16_t)(1 + below(8));
+    case 1: return (uint16_t)(8192 * (1 + below(4)) - 4 + below(8) - (one_in(2) ? 0 : 1));
+    case 2: return (uint16_t)(1 + below(32768));
+    case 3: return 32768;
+    default: return (uint16_t)(16 + below(600));
+    }
+}
+
+static uint16_t random_capacity(void) { return (uint16_t)(one_in(8) ? 1 + below(4096) : 1 + below(24)); }
+
+static sizes random_sizes(void)
+{
+    uint16_t window = random_window();
+    if (window > 32768) window = 32768;
+    return (sizes){ window, random_capacity(), random_capacity() };
+}
+
+/* codes at which a machine stops at once: a window without them runs longer */
+static int stops(uint8_t code)
+{
+    static const uint8_t unknown[] = { 0x00, 0x10, 0x11, 0x90, 0x91, 0xB6, 0xB7, 0xC4, 0xC5, 0xC6, 0xC7, 0x40 };
+    for (size_t i = 0; i < sizeof unknown; i++)
+        if (code == unknown[i]) return 1;
+    return (code & 0x7C) == 0x30 || (code & 0x7C) == 0x54;
+}
+
+static void random_code(uint8_t *p, size_t n)
+{
+    for (size_t i = 0; i < n; i++) {
+        p[i] = (uint8_t)random64();
+        while (stops(p[i]) && !one_in(16)) p[i] = (uint8_t)random64();
+    }
+}
+
+/* anywhere, most often inside the window, often where a page ends */
+static uint16_t random_address(const twin *t)
+{
+    if (one_in(16)) return (uint16_t)below(32768);
+    if (one_in(4)) return (uint16_t)((8192 * (1 + below(4)) - 3 + below(6)) % 32768);
+    return (uint16_t)below(t->size.window);
+}
+
+/* statuses 3 and 4 as a sound machine has them: nothing unread, output full */
+static uint8_t random_status(ref2650 *m)
+{
+    if (!one_in(32)) return ST_RUN;
+    uint8_t status = (uint8_t)(1 + below(7));
+    if (status == ST_WANTS) m->read = m->filled;
+    if (status == ST_FULL) m->written = m->ocap;
+    return status;
+}
+
+/* any sound state */
+static void random_machine(twin *t)
+{
+    ref2650 *m = &t->reference;
+    m->pc = random_address(t);
+    m->r0 = (uint8_t)random64();
+    random_bytes(&m->bank[0][0], sizeof m->bank);
+    m->psu = (uint8_t)(random64() & PSU_STORED);
+    m->psl = (uint8_t)random64();
+    for (int i = 0; i < 8; i++) m->ras[i] = random_address(t);
+    m->filled = (uint16_t)below(m->icap + 1u);
+    m->read = (uint16_t)below(m->filled + 1u);
+    m->written = (uint16_t)below(m->ocap + 1u);
+    m->status = random_status(m);
+}
+
+typedef struct {
+    uint64_t cases, machines, pieces, steps, stopped[8];
+    uint8_t met[256];  /* first bytes of instructions with which a piece began */
+} counts;
+
+static void note_code(const twin *t, counts *n)
+{
+    const ref2650 *m = &t->reference;
+    if (m->status == ST_RUN && m->pc < m->wsize) n->met[m->window[m->pc]] = 1;
+}
+
+/* Pieces of random length until the machine stops or a few are done. */
+static const char *run_pieces(twin *t, counts *n)
+{
+    size_t left = 1 + below(12);
+    do {
+        uint64_t quantum = one_in(8) ? below(256) : below(12);
+        uint64_t rounds = one_in(8) ? below(20) : below(4);
+        note_code(t, n);
+        n->steps += twin_run(t, quantum, rounds);
+        n->pieces++;
+        const char *what = twin_difference(t);
+        if (what) return what;
+    } while (--left && t->reference.status == ST_RUN);
+    return NULL;
+}
+
+/* One case: a window, and machines started in it one after the other, each in what the last one left. */
+static const char *run_case(uint64_t seed, counts *n)
+{
+    random_seed(seed);
+    twin t = twin_new(random_sizes(), below(3) * below(40));
+    if (one_in(4)) random_bytes(t.reference.window, t.size.window);
+    else random_code(t.reference.window, t.size.window);
+    random_bytes(t.reference.in, (size_t)t.size.input + t.size.output);
+    unsigned machines = t.size.window > 1000 ? 200 : 20;
+    const char *what = NULL;
+    while (machines-- && !what) {
+        random_machine(&t);
+        twin_same(&t);
+        what = run_pieces(&t, n);
+        n->machines++;
+        n->stopped[t.reference.status & 7]++;
+    }
+    n->cases++;
+    twin_free(&t);
+    return what;
+}
+
+static void print_counts(uint64_t seed, const counts *n)
+{
+    int met = 0;
+    for (int i = 0; i < 256; i++) met += n->met[i];
+    printf("%" PRIu64 " steps from seed %" PRIu64 ": no difference\n", n->steps, seed);
+    printf("%" PRIu64 " windows, %" PRIu64 " machines, %" PRIu64 " pieces compared; %d of 256 codes began a piece\n",
+           n->cases, n->machines, n->pieces, met);
+    printf("ended with status");
+    for (int i = 1; i < 8; i++) printf(" %d: %" PRIu64 "%s", i, n->stopped[i], i < 7 ? "," : "\n");
+}
+
+int random_machines(uint64_t seed, uint64_t steps)
+{
+    counts n;
+    memset(&n, 0, sizeof n);
+    do {
+        const char *what = run_case(seed + n.cases, &n);
+        if (what) {
+            printf("DIFFERENT: %s, after %" PRIu64 " steps in all\nagain: make machines SEED=%" PRIu64 " STEPS=1\n",
+                   what, n.steps, seed + n.cases - 1);
+            return 1;
+        }
+    } while (n.steps < steps);
+    print_counts(seed, &n);
+    return 0;
+}

@@ -1,0 +1,170 @@
+#define _POSIX_C_SOURCE 200809L
+#include "speed.h"
+#include "floor.h"
+#include <dirent.h>
+#include <stdio.h>
+#include <stdlib.h>
+#include <string.h>
+#include <time.h>
+
+/* A machine alone, and rounds of 1, 2 and 8 slots: each at quanta of 255 and of 1. */
+enum { QUANTA = 2, WAYS = 4, ALONE = 0, PASSES = 5, RUNS = 41, STEPS = 60000, MOST = 64 };
+static const uint8_t quanta[QUANTA] = { 255, 1 };
+static const unsigned slots_of[WAYS] = { 0, 1, 2, 8 };
+
+typedef struct {
+    double reference, product;  /* seconds of the best run so far */
+    double steps;
+} timing;
+
+typedef struct {
+    char name[64];
+    pattern pattern;
+    timing at[QUANTA][WAYS];
+    const char *different;
+    int not_timed;
+} row;
+
+static row rows[MOST];
+
+static double now(void)
+{
+    struct timespec t;
+    clock_gettime(CLOCK_MONOTONIC, &t);
+    return (double)t.tv_sec + (double)t.tv_nsec * 1e-9;
+}
+
+static void keep(timing *best, double start, double between, double end)
+{
+    if (between - start < best->reference) best->reference = between - start;
+    if (end - between < best->product) best->product = end - between;
+}
+
+static void time_alone(row *r, unsigned quantum, timing *best)
+{
+    uint64_t rounds = STEPS / quantum;
+    twin t = twin_new(r->pattern.size, 0);
+    best->steps = (double)(rounds * quantum);
+    for (int i = 0; i < RUNS && !r->different; i++) {
+        pattern_load(&r->pattern, &t);
+        double start = now();
+        for (uint64_t k = 0; k < rounds; k++) ref_run(&t.reference, quantum);
+        double between = now();
+        pf_machine_run(t.state.bytes, t.state.length, t.bytes.bytes, t.bytes.length,
+                       t.size.window, t.size.input, t.size.output, quantum, rounds);
+        keep(best, start, between, now());
+        r->different = twin_difference(&t);
+    }
+    r->not_timed |= t.reference.status != ST_RUN;
+    twin_free(&t);
+}
+
+static void time_rounds(row *r, unsigned quantum, unsigned slots, timing *best)
+{
+    static floors loaded, f;
+    uint16_t rounds = (uint16_t)(STEPS / (quantum * slots));
+    best->steps = (double)rounds * quantum * slots;
+    if (!floors_load(&loaded, &r->pattern, slots, (uint8_t)quantum)) {
+        r->not_timed = 1;
+        return;
+    }
+    for (int i = 0; i < RUNS && !r->different; i++) {
+        f = loaded;
+        double start = now();
+        ref_pass(&f.record, f.reference_memory, sizeof f.reference_memory, rounds);
+        double between = now();
+        pf_run(f.table, sizeof f.table, f.memory, sizeof f.memory, rounds);
+        keep(best, start, between, now());
+        r->different = floors_difference(&f);
+    }
+    r->not_timed |= !floors_running(&f, slots);
+}
+
+static void time_row(row *r)
+{
+    for (int q = 0; q < QUANTA; q++)
+        for (int way = 0; way < WAYS; way++) {
+            timing *best = &r->at[q][way];
+            if (way == ALONE) time_alone(r, quanta[q], best);
+            else time_rounds(r, quanta[q], slots_of[way], best);
+        }
+}
+
+static double ratio(const timing *t) { return t->reference / t->product; }
+static double rate(const timing *t, double seconds) { return t->steps / seconds / 1e6; }
+
+static int print_row(const row *r)
+{
+    printf("%-10s", r->name);
+    if (r->different) {
+        printf(" DIFFERENT: %s\n", r->different);
+        return 1;
+    }
+    if (r->not_timed) {
+        printf(" stops early, or does not fit: compared, not timed\n");
+        return 0;
+    }
+    for (int q = 0; q < QUANTA; q++) {
+        for (int way = 0; way < WAYS; way++) printf(" %5.2f", ratio(&r->at[q][way]));
+        printf("  ");
+    }
+    const timing *alone = &r->at[0][ALONE];
+    for (int way = 1; way < WAYS; way++) {
+        const timing *t = &r->at[0][way];
+        printf(" %5.2f", rate(t, t->product) / rate(alone, alone->product));
+    }
+    printf("  ");
+    for (int q = 0; q < QUANTA; q++) {
+        const timing *t = &r->at[q][ALONE];
+        printf("  %4.0f (%4.0f)", rate(t, t->product), rate(t, t->reference));
+    }
+    printf("\n");
+    return 0;
+}
+
+static void print_head(void)
+{
+    printf("Product / reference, for a machine alone and for rounds of 1, 2 and 8 slots; the product's rounds / its machine alone; and\n"
+           "millions of instructions a second of a machine alone, of the product (of the reference).\n\n");
+    printf("%-10s %-24s   %-24s   %-18s   %-11s  %-11s\n", "", "quantum 255", "quantum 1", "rounds/alone, 255", "at 255", "at 1");
+    printf("%-10s alone   x 1   x 2   x 8   alone   x 1   x 2   x 8     x 1   x 2   x 8\n", "");
+}
+
+static int is_pattern(const struct dirent *e)
+{
+    size_t n = strlen(e->d_name);
+    return n > 4 && n - 4 < sizeof rows[0].name && !strcmp(e->d_name + n - 4, ".pat");
+}
+
+static int read_row(row *r, const char *directory, const char *name)
+{
+    char path[4096];
+    snprintf(path, sizeof path, "%s/%s", directory, name);
+    snprintf(r->name, sizeof r->name, "%.*s", (int)(strlen(name) - 4), name);
+    for (int q = 0; q < QUANTA; q++)
+        for (int way = 0; way < WAYS; way++) r->at[q][way] = (timing){ 1e9, 1e9, 0 };
+    if (pattern_read(path, &r->pattern)) return 1;
+    fprintf(stderr, "%s: not a pattern file\n", path);
+    return 0;
+}
+
+int speed(const char *directory)
+{
+    struct dirent **names;
+    int found = scandir(directory, &names, is_pattern, alphasort), failed = 0;
+    if (found < 0) {
+        perror(directory);
+        return 2;
+    }
+    int count = found < MOST ? found : MOST;
+    for (int i = 0; i < count; i++)
+        if (!read_row(&rows[i], directory, names[i]->d_name)) return 2;
+    /* several passes over all patterns: another program's busy second then spoils no pattern's number */
+    for (int pass = 0; pass < PASSES; pass++)
+        for (int i = 0; i < count; i++) time_row(&rows[i]);
+    print_head();
+    for (int i = 0; i < count; i++) failed |= print_row(&rows[i]);
+    for (int i = 0; i < found; i++) free(names[i]);
+    free(names);
+    return failed;
+}

@@ -1,0 +1,7 @@
+/* How fast the product runs patterns, beside the reference. */
+#ifndef SPEED_H
+#define SPEED_H
+
+/* Prints a table of the pattern files (.pat) in a directory. It compares too, and answers 1 after a difference; it asserts nothing about time. */
+int speed(const char *directory);
+#endif

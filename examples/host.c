@@ -1,0 +1,69 @@
+/* A small host: two patterns side by side in one memory.
+ *
+ *     host FIRST.pat SECOND.pat
+ *
+ * Both run by turns. The second is fed a text, a few bytes whenever it wants input; what each puts out is printed in hexadecimal. */
+#include <pattern_floor.h>
+#include <stdio.h>
+#include <string.h>
+
+static uint8_t table[PF_TABLE_BYTES], memory[8192];
+
+static int load(const char *path, size_t slot, size_t location)
+{
+    static uint8_t file[PF_FILE_MOST + 1];
+    FILE *f = fopen(path, "rb");
+    if (!f) {
+        perror(path);
+        return 0;
+    }
+    size_t length = fread(file, 1, sizeof file, f);
+    fclose(f);
+    pf_answer loaded = pf_load(table, sizeof table, memory, sizeof memory, slot, location, file, length);
+    if (pf_refusal(loaded)) fprintf(stderr, "%s: refused by %u\n", path, pf_refusal(loaded));
+    return pf_refusal(loaded) == 0;
+}
+
+static unsigned status(size_t slot)
+{
+    uint8_t report[PF_REPORT_BYTES];
+    pf_report(table, sizeof table, slot, report, sizeof report);
+    return report[0];
+}
+
+static void drain(size_t slot)
+{
+    uint8_t out[4096];
+    unsigned count = pf_count(pf_drain(table, sizeof table, memory, sizeof memory, slot, out, sizeof out));
+    if (count) printf("slot %u:", (unsigned)slot);
+    for (unsigned i = 0; i < count; i++) printf(" %02X%s", out[i], i + 1 == count ? "\n" : "");
+}
+
+/* Both stand still once neither runs, and the second does not wait for text that is left. */
+static int working(const char *text)
+{
+    return status(0) == PF_STATUS_RUNNING || status(1) == PF_STATUS_RUNNING
+        || (status(1) == PF_STATUS_WANTS_INPUT && *text);
+}
+
+int main(int argc, char **argv)
+{
+    const char *text = "blue glass";
+    if (argc != 3) {
+        fprintf(stderr, "usage: host FIRST.pat SECOND.pat\n");
+        return 2;
+    }
+    pf_new(table, sizeof table, sizeof memory);
+    if (!load(argv[1], 0, 0) || !load(argv[2], 1, 4096)) return 1;
+    for (int turn = 0; turn < 1000 && working(text); turn++) {
+        pf_run(table, sizeof table, memory, sizeof memory, 10);
+        drain(0);
+        drain(1);
+        if (status(1) == PF_STATUS_WANTS_INPUT && *text) {
+            size_t piece = strlen(text) < 4 ? strlen(text) : 4;
+            pf_feed(table, sizeof table, memory, sizeof memory, 1, (const uint8_t *)text, piece);
+            text += piece;
+        }
+    }
+    return 0;
+}

@@ -1,0 +1,163 @@
+/* pattern_floor.h: a floor of eight Signetics 2650 patterns in one memory, for hosts in C.
+ *
+ * docs/HOSTING.md is the page that goes with it: the life of a floor, and the bytes of a table.
+ *
+ * BUFFERS. A buffer is a pointer and then its length in bytes. The host owns every buffer; a call uses it until it returns, keeps no
+ * pointer, allocates nothing and has no state of its own. Any length is taken, and what is wrong is answered by a number.
+ *   - A buffer of length 0 may have any pointer but NULL: give the address of some object. (A buffer of length 0 is never read or written.)
+ *   - Every pointer must be valid for its length, which is at most PTRDIFF_MAX, as for any object in C. Bytes need no alignment.
+ *   - A buffer that a call may write (without const below) must not overlap another buffer of the same call. Those with const may
+ *     overlap one another.
+ *   - Two calls may run at the same time on different threads if no buffer that one may write is used by the other.
+ *
+ * ANSWERS. A pf_answer has the refusal in its upper half, 0 if the call did its work, and a count in its lower half: pf_refusal()
+ * and pf_count() take them apart. A refused call has changed no byte of any buffer, and its count is 0. Refusals are numbered in the order in
+ * which they are tested, which is the order of the list at each call; the first that holds is the answer.
+ *
+ * Each call below is proved to answer and leave exactly what this header says, for every input, and to end.
+ */
+#ifndef PATTERN_FLOOR_H
+#define PATTERN_FLOOR_H
+
+#include <stddef.h>
+#include <stdint.h>
+
+#ifdef __cplusplus
+extern "C" {
+#endif
+
+typedef uint32_t pf_answer;
+
+/* Refusals. */
+enum {
+    PF_NOT_SOUND = 1,       /* the table's buffer is not of PF_TABLE_BYTES, or holds no sound table */
+    PF_OTHER_LENGTH = 2,    /* the memory is not as long as the table says; for a new table, not 1 to PF_MEMORY_MOST */
+    PF_NO_SLOT = 3,         /* the slot is not 0 to 7 */
+    PF_TAKEN = 4,           /* the slot holds a pattern */
+    PF_EMPTY = 5,           /* the slot holds none */
+    PF_FRAME = 6,           /* file: a record's mark, length or order; too short; bytes after its end */
+    PF_FORM = 7,            /* file: its form is not 1 */
+    PF_BOARD = 8,           /* file: its board is not 1 */
+    PF_VALUES = 9,          /* file: a value is out of range; for writing also: the image is not of the window's size */
+    PF_CODE = 10,           /* file: code longer than the window, or ending in a zero byte */
+    PF_INPUT = 11,          /* file: first input longer than the input's capacity */
+    PF_PAST_END = 12,       /* the pattern's partition would end past the memory */
+    PF_MEETS = 13,          /* it would meet another pattern's */
+    PF_UNREAD = 14,         /* input that was fed before is still unread */
+    PF_NO_INPUT = 15,       /* no bytes to feed, or more than the input's capacity */
+    PF_SHORT = 16           /* the buffer is too short for what it would be given */
+};
+
+/* What a slot is at: the first byte of a report. */
+enum {
+    PF_STATUS_EMPTY = 0,
+    PF_STATUS_RUNNING = 1,
+    PF_STATUS_HALTED = 2,       /* by HALT */
+    PF_STATUS_WANTS_INPUT = 3,  /* REDD with nothing unread: pf_feed lets it go on */
+    PF_STATUS_OUTPUT_FULL = 4,  /* WRTD with a full output: pf_drain lets it go on */
+    PF_STATUS_UNKNOWN = 5,      /* a code that is no instruction */
+    PF_STATUS_OUTSIDE = 6,      /* an address outside of the window */
+    PF_STATUS_PORT = 7          /* REDC, WRTC, REDE or WRTE */
+};
+
+enum {
+    PF_SLOTS = 8,
+    PF_TABLE_BYTES = 364,
+    PF_REPORT_BYTES = 12,
+    PF_VALUES_BYTES = 9,
+    PF_STATE_BYTES = 34,
+    PF_FILE_LEAST = 31,         /* the shortest and the longest pattern file */
+    PF_FILE_MOST = 36895,
+    PF_MEMORY_MOST = 65536,
+    PF_LISTING_MEMORY = 40960,
+    PF_LISTING_BYTES = 12326    /* the longest text of a listing */
+};
+
+static inline unsigned pf_refusal(pf_answer answer) { return (unsigned)(answer >> 16); }
+static inline unsigned pf_count(pf_answer answer) { return (unsigned)(answer & 0xFFFFu); }
+
+/* ---- The table -------------------------------------------------------------------------------------------------------
+ * A table is PF_TABLE_BYTES bytes that these calls write and read; between calls the host keeps them, and may copy, store and move
+ * them. Every sound table has exactly one form as bytes. Together with its memory it is the whole state of a floor. */
+
+/* Makes a table of eight empty slots for a memory of `length` bytes, which is not touched. The table's old bytes do not matter.
+ * Refused: 1 (here only for the buffer's length), 2. */
+pf_answer pf_new(uint8_t *table, size_t table_length, size_t length);
+
+/* Loads a pattern file into an empty slot. Its partition starts at `location` and takes window + input + output bytes, all of which are
+ * written: the code, the first input, and zeros. The file is not needed afterwards.
+ * Refused: 1, 2, 3, 4, the reader's 6 to 11, 12, 13. */
+pf_answer pf_load(uint8_t *table, size_t table_length, uint8_t *memory, size_t memory_length,
+                  size_t slot, size_t location, const uint8_t *file, size_t file_length);
+
+/* Empties a slot, and sets its partition's bytes to zero.
+ * Refused: 1, 2, 3, 5. */
+pf_answer pf_unload(uint8_t *table, size_t table_length, uint8_t *memory, size_t memory_length, size_t slot);
+
+/* Gives a pattern new input, once it has read all of the last: at least one byte, at most its input's capacity. A pattern that
+ * wants input (3) runs again.
+ * Refused: 1, 2, 3, 5, 14, 15. */
+pf_answer pf_feed(uint8_t *table, size_t table_length, uint8_t *memory, size_t memory_length,
+                  size_t slot, const uint8_t *input, size_t input_length);
+
+/* Takes what a pattern has put out, to the front of `buffer`; pf_count() is how many bytes, 0 too. The rest of the buffer is left. A
+ * pattern whose output was full (4) runs again. A buffer of the output's capacity, at most 4096, is always long enough.
+ * Refused: 1, 2, 3, 5, 16. */
+pf_answer pf_drain(uint8_t *table, size_t table_length, const uint8_t *memory, size_t memory_length,
+                   size_t slot, uint8_t *buffer, size_t buffer_length);
+
+/* Runs `rounds` rounds, 0 too: in each, every slot at status 1, from slot 0 to slot 7, takes its quantum of instructions, or fewer if it
+ * stops. A stopped slot stays as it is, and its instructions go to nobody.
+ * Refused: 1, 2. */
+pf_answer pf_run(uint8_t *table, size_t table_length, uint8_t *memory, size_t memory_length, uint16_t rounds);
+
+/* Tells how a slot stands, in the first PF_REPORT_BYTES bytes of `report`; the rest is left:
+ *   0 status; 1 and 2 program counter, high byte first; 3 R0; 4 to 6 R1 to R3 of bank 0; 7 to 9 those of bank 1; 10 PSU, with Sense; 11 PSL.
+ * Refused: 1, 3, 5, 16. */
+pf_answer pf_report(const uint8_t *table, size_t table_length, size_t slot, uint8_t *report, size_t report_length);
+
+/* ---- Pattern files --------------------------------------------------------------------------------------------------- */
+
+/* Reads a file's values into the first PF_VALUES_BYTES bytes of `values`; the rest is left:
+ *   0 window size, 2 input capacity, 4 output capacity, 6 start address, two bytes each, high byte first; 8 quantum.
+ * Refused: 6 to 11, 16. */
+pf_answer pf_read(const uint8_t *file, size_t file_length, uint8_t *values, size_t values_length);
+
+/* Where a file's code, and its first input, lie in the file: pf_offset() and pf_length() take the answer apart. For a file that is refused
+ * it is 0: nothing at 0. The refusal's number is pf_read's. */
+typedef uint32_t pf_stretch;
+static inline size_t pf_offset(pf_stretch stretch) { return (size_t)(stretch >> 16); }
+static inline size_t pf_length(pf_stretch stretch) { return (size_t)(stretch & 0xFFFFu); }
+
+pf_stretch pf_code(const uint8_t *file, size_t file_length);
+pf_stretch pf_input(const uint8_t *file, size_t file_length);
+
+/* Writes the file of a pattern to the front of `buffer`; pf_count() is the file's length. `values` are PF_VALUES_BYTES bytes, as of pf_read;
+ * `image` is the whole window; `input` is the first input. Each pattern has exactly one file.
+ * Refused: 9 (also if `values` is of another length, or `image` not of the window's size), 11, 16. */
+pf_answer pf_write(const uint8_t *values, size_t values_length, const uint8_t *image, size_t image_length,
+                   const uint8_t *input, size_t input_length, uint8_t *buffer, size_t buffer_length);
+
+/* ---- The bench run --------------------------------------------------------------------------------------------------- */
+
+/* Runs a pattern file alone, in slot 0 at location 0 of the memory that is lent, for up to 1,000 rounds, and leaves its two lines of text,
+ * or `refused N`, at the front of `text`; pf_count() is their length. The memory's bytes are used as a floor's, and hold the pattern afterwards.
+ * A file that is refused is no refusal of this call.
+ * Refused: 16 if `text` is shorter than PF_LISTING_BYTES, then 2 if the memory is not of PF_LISTING_MEMORY bytes. */
+pf_answer pf_listing(const uint8_t *file, size_t file_length, uint8_t *memory, size_t memory_length,
+                     uint8_t *text, size_t text_length);
+
+/* ---- One machine alone ----------------------------------------------------------------------------------------------- */
+
+/* Runs one 2650 outside of any table: `rounds` times `quantum` instructions, or fewer if it stops. `state` is a machine as the PF_STATE_BYTES bytes that
+ * it has in a table; `partition` is its window, input and output, of these sizes. It takes any state, a sound one or not, and cuts sizes that the
+ * partition is too short for. Answers 0, or 1 if the state is not of PF_STATE_BYTES. For measuring and for tests: it has an archive of its own,
+ * libmachine.a, and no host needs it. */
+uint8_t pf_machine_run(uint8_t *state, size_t state_length, uint8_t *partition, size_t partition_length,
+                       uint16_t window, uint16_t input, uint16_t output, uint64_t quantum, uint64_t rounds);
+
+#ifdef __cplusplus
+}
+#endif
+
+#endif
