@@ -8,7 +8,7 @@
 #include <time.h>
 
 /* A machine alone, and rounds of 1, 2 and 8 slots: each at quanta of 255 and of 1. */
-enum { QUANTA = 2, WAYS = 4, ALONE = 0, PASSES = 5, RUNS = 41, STEPS = 60000, MOST = 64 };
+enum { QUANTA = 2, WAYS = 4, ALONE = 0, PASSES = 20, RUNS = 21, STEPS = 60000, MOST = 64 };
 static const uint8_t quanta[QUANTA] = { 255, 1 };
 static const unsigned slots_of[WAYS] = { 0, 1, 2, 8 };
 
