@@ -11,10 +11,11 @@
  *   - Two calls may run at the same time on different threads if no buffer that one may write is used by the other.
  *
  * ANSWERS. A pf_answer has the refusal in its upper half, 0 if the call did its work, and a count in its lower half: pf_refusal()
- * and pf_count() take them apart. A refused call has changed no byte of any buffer, and its count is 0. Refusals are numbered in the order in
- * which they are tested, which is the order of the list at each call; the first that holds is the answer.
+ * and pf_count() take them apart. A refused call has changed no byte of any buffer, and its count is 0. The list at each call has its
+ * refusals in the order in which they are tested; the first that holds is the answer.
  *
- * Each call below is proved to answer and leave exactly what this header says, for every input, and to end.
+ * Each call is proved to end, and to answer and leave what its definition says, for every input; this header gives those definitions in
+ * words, and crates/host/specs has them in full.
  */
 #ifndef PATTERN_FLOOR_H
 #define PATTERN_FLOOR_H
