@@ -12,7 +12,8 @@
  *
  * ANSWERS. A pf_answer has the refusal in its upper half, 0 if the call did its work, and a count in its lower half: pf_refusal()
  * and pf_count() take them apart. A refused call has changed no byte of any buffer, and its count is 0. The list at each call has its
- * refusals in the order in which they are tested; the first that holds is the answer.
+ * refusals in the order in which they are tested; the first that holds is the answer. Of a file, 6 to 11 are one step: the reader goes from
+ * front to back, and answers the first fault that it meets.
  *
  * Each call is proved to end, and to answer and leave what its definition says, for every input; this header gives those definitions in
  * words, and crates/host/specs has them in full.
@@ -39,21 +40,22 @@ enum {
     PF_FRAME = 6,           /* file: a record's mark, length or order; too short; bytes after its end */
     PF_FORM = 7,            /* file: its form is not 1 */
     PF_BOARD = 8,           /* file: its board is not 1 */
-    PF_VALUES = 9,          /* file: a value is out of range; for writing also: the image is not of the window's size */
+    PF_VALUES = 9,          /* file: a value is out of range: window 1 to 32768, input and output 1 to 4096, start below the window,
+                               quantum 1 to 255; for writing also: the image is not of the window's size */
     PF_CODE = 10,           /* file: code longer than the window, or ending in a zero byte */
     PF_INPUT = 11,          /* file: first input longer than the input's capacity */
     PF_PAST_END = 12,       /* the pattern's partition would end past the memory */
     PF_MEETS = 13,          /* it would meet another pattern's */
-    PF_UNREAD = 14,         /* input that was fed before is still unread */
+    PF_UNREAD = 14,         /* input is still unread: the last that was fed, or the file's first */
     PF_NO_INPUT = 15,       /* no bytes to feed, or more than the input's capacity */
     PF_SHORT = 16           /* the buffer is too short for what it would be given */
 };
 
-/* What a slot is at: the first byte of a report. */
+/* What a slot is at: the first byte of a report. At 3 to 7 the counter is still at the instruction, of which nothing was carried out. */
 enum {
-    PF_STATUS_EMPTY = 0,
+    PF_STATUS_EMPTY = 0,        /* in a table; pf_report refuses such a slot by 5 */
     PF_STATUS_RUNNING = 1,
-    PF_STATUS_HALTED = 2,       /* by HALT */
+    PF_STATUS_HALTED = 2,       /* by HALT; the counter is behind it */
     PF_STATUS_WANTS_INPUT = 3,  /* REDD with nothing unread: pf_feed lets it go on */
     PF_STATUS_OUTPUT_FULL = 4,  /* WRTD with a full output: pf_drain lets it go on */
     PF_STATUS_UNKNOWN = 5,      /* a code that is no instruction */
@@ -108,12 +110,13 @@ pf_answer pf_drain(uint8_t *table, size_t table_length, const uint8_t *memory, s
                    size_t slot, uint8_t *buffer, size_t buffer_length);
 
 /* Runs `rounds` rounds, 0 too: in each, every slot at status 1, from slot 0 to slot 7, takes its quantum of instructions, or fewer if it
- * stops. A stopped slot stays as it is, and its instructions go to nobody.
+ * stops. A stopped slot stays as it is, and its instructions go to nobody. (More than 65,535 rounds take more calls: C cuts a larger number.)
  * Refused: 1, 2. */
 pf_answer pf_run(uint8_t *table, size_t table_length, uint8_t *memory, size_t memory_length, uint16_t rounds);
 
 /* Tells how a slot stands, in the first PF_REPORT_BYTES bytes of `report`; the rest is left:
- *   0 status; 1 and 2 program counter, high byte first; 3 R0; 4 to 6 R1 to R3 of bank 0; 7 to 9 those of bank 1; 10 PSU, with Sense; 11 PSL.
+ *   0 status; 1 and 2 program counter, high byte first; 3 R0; 4 to 6 R1 to R3 of bank 0; 7 to 9 those of bank 1; 10 PSU; 11 PSL.
+ * Bit 7 of PSU is Sense: 1 exactly while input is unread. A table does not store it.
  * Refused: 1, 3, 5, 16. */
 pf_answer pf_report(const uint8_t *table, size_t table_length, size_t slot, uint8_t *report, size_t report_length);
 
@@ -134,16 +137,20 @@ pf_stretch pf_code(const uint8_t *file, size_t file_length);
 pf_stretch pf_input(const uint8_t *file, size_t file_length);
 
 /* Writes the file of a pattern to the front of `buffer`; pf_count() is the file's length. `values` are PF_VALUES_BYTES bytes, as of pf_read;
- * `image` is the whole window; `input` is the first input. Each pattern has exactly one file.
+ * `image` is the whole window, of which the file leaves out the zeros at its end; `input` is the first input, or nothing. Each pattern has exactly one
+ * file; a buffer of PF_FILE_MOST bytes is always long enough.
  * Refused: 9 (also if `values` is of another length, or `image` not of the window's size), 11, 16. */
 pf_answer pf_write(const uint8_t *values, size_t values_length, const uint8_t *image, size_t image_length,
                    const uint8_t *input, size_t input_length, uint8_t *buffer, size_t buffer_length);
 
 /* ---- The bench run --------------------------------------------------------------------------------------------------- */
 
-/* Runs a pattern file alone, in slot 0 at location 0 of the memory that is lent, for up to 1,000 rounds, and leaves its two lines of text,
- * or `refused N`, at the front of `text`; pf_count() is their length. The memory's bytes are used as a floor's, and hold the pattern afterwards.
- * A file that is refused is no refusal of this call.
+/* Runs a pattern file alone, in slot 0 at location 0 of the memory that is lent, in single rounds until it stops or 1,000 are made, and leaves its text at the
+ * front of `text`; pf_count() is the text's length. There is no 0 behind it. The text is two lines, each ended by a newline, fields parted by a space:
+ *   status in decimal, counter in four hex digits; PSU, PSL, R0, R1 to R3 of bank 0, R1 to R3 of bank 1 in two each
+ *   out, and each byte that was put out in two hex digits
+ * or, of a file that is refused, `refused N` and a newline: the call itself is then accepted. Nothing is fed, and nothing drained until the end.
+ * The memory is used as a floor's, and holds the pattern's bytes afterwards; a file that is refused leaves it.
  * Refused: 16 if `text` is shorter than PF_LISTING_BYTES, then 2 if the memory is not of PF_LISTING_MEMORY bytes. */
 pf_answer pf_listing(const uint8_t *file, size_t file_length, uint8_t *memory, size_t memory_length,
                      uint8_t *text, size_t text_length);
