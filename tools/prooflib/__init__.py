@@ -1,0 +1,12 @@
+"""The parts of `tools/proofkit`, from the bottom up.
+
+toolchain  runs `rt`: one crate checked, its generated text, files formatted
+places     what a function's proof has to fit, by the generated text; the file answers/PLACES
+answers    the format of an answers file
+lifting    Proof.antt to answers
+writing    answers to Proof.antt
+moving     answers carried over to new places after a change of the source
+guessing   a first guess at a proof
+keeping    the commands lift, write and current
+exploring  the commands scaffold, holes, places and auto
+"""

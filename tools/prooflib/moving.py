@@ -1,0 +1,172 @@
+"""Answers carried over to new places, after a change of the source.
+
+Needs and things are matched with the old ones by kind, by the things on the way, and by order.
+"""
+import re
+
+from prooflib.answers import DEFAULT, Block
+from prooflib.places import EDGE, need_base
+
+GONE = "(gone)"  # behind the name of a need that is asked no more
+
+
+def align(old, new, score):
+    """The pairs (i, j), both rising, with the greatest sum of SCORE(i, j).
+
+    A pair of score 0 is none.
+    """
+    best = [[0.0] * (len(new) + 1) for _ in range(len(old) + 1)]
+    worth = {}
+    for i in range(len(old) - 1, -1, -1):
+        for j in range(len(new) - 1, -1, -1):
+            worth[i, j] = score(i, j)
+            best[i][j] = max(best[i + 1][j], best[i][j + 1], best[i + 1][j + 1] + worth[i, j])
+    pairs, i, j = [], 0, 0
+    while i < len(old) and j < len(new):
+        if worth[i, j] and best[i][j] == best[i + 1][j + 1] + worth[i, j]:
+            pairs.append((i, j))
+            i, j = i + 1, j + 1
+        elif best[i][j] == best[i + 1][j]:
+            i += 1
+        else:
+            j += 1
+    return pairs
+
+
+def likeness(a, b):
+    """1 for equal lists, 0 for lists with nothing in common."""
+    if a == b:
+        return 1.0
+    return 2.0 * len(align(a, b, lambda i, j: a[i] == b[j])) / (len(a) + len(b))
+
+
+def matched_needs(old, new):
+    """Old need -> new need: one of its own kind, at the likeliest place."""
+    kinds = [[need_base(need, set(places.needs)) for need in places.needs] for places in (old, new)]
+    keys = [[places.keys(need) for need in places.needs] for places in (old, new)]
+
+    def score(i, j):
+        return kinds[0][i] == kinds[1][j] and 0.01 + likeness(keys[0][i], keys[1][j])
+
+    return {old.needs[i]: new.needs[j] for i, j in align(old.needs, new.needs, score)}
+
+
+def move(answers, old, new):
+    """Carries answers that were written for the places OLD over to NEW.
+
+    Returns what a person should look at.
+    """
+    notes, goes, blocks = [], matched_needs(old, new), []
+    for block in answers.blocks:
+        if block.kind == "loop":
+            move_loop(block, old, new, notes)
+        blocks.extend(move_block(block, goes, old, new, notes) if block.kind == "need" else [block])
+    answers.blocks = blocks
+    answered = {name for block in blocks for name in block.names}
+    for need in new.needs:
+        if need not in goes.values() and need not in answered:
+            notes.append(new_need(answers, need, goes, new))
+    return list(dict.fromkeys(notes))
+
+
+def move_block(block, goes, old, new, notes):
+    """The blocks that a need's block becomes: needs whose terms come out alike share one."""
+    out = {}
+    for name in block.names:
+        text = block.text
+        if name not in old.trails:  # an answer that was written since, for a need of the new places
+            to = name
+        elif name in goes:
+            to = goes[name]
+            text = move_term(text, name, to, old, new, notes)
+        else:
+            to = name + GONE  # a name that no need has: another need may be called NAME now
+            notes.append("%s is asked no more; its answer stays in the file as %s" % (name, to))
+        if text in out:
+            out[text].names.append(to)
+        else:
+            out[text] = Block("need", [to], text, [] if out else block.notes, block.opened)
+    return list(out.values())
+
+
+def move_term(text, need, to, old, new, notes):
+    """A term with the new names of its things."""
+    here, there, names = old.keys(need), new.keys(to), new.names(to)
+    pairs = dict(align(here, there, lambda i, j: here[i] == there[j]))
+
+    def thing(match):
+        name, *way = match.group(2).split(">")
+        at = old.find(need, name)
+        if at == -1 or at is None:
+            return match.group(0)
+        if at not in pairs:
+            notes.append("%s: @%s is not on the way any more" % (to, name))
+            return match.group(0)
+        for rival in rivals(pairs[at], set(pairs.values()), there):
+            notes.append("%s: @%s is taken for @%s; it may be @%s"
+                         % (to, name, names[pairs[at]], names[rival]))
+        return "@" + match.group(1) + ">".join([names[pairs[at]]] + way)
+
+    return re.sub(r"@((?:to:)?)(%s+)" % EDGE, thing, text)
+
+
+def rivals(at, met, there):
+    """New things of the same kind right beside AT: the places do not tell which one is which."""
+    found = []
+    for step in (1, -1):
+        j = at + step
+        while j in range(len(there)) and j not in met:
+            if there[j] == there[at]:
+                found.append(j)
+            j += step
+    return found
+
+
+def new_need(answers, need, goes, new):
+    """Gives a need that is new the answer of its kind on a like way, if all it names is there too.
+
+    A branch around old code asks the needs behind it once for each way; both take one answer.
+    """
+    kind = need_base(need, set(new.needs))
+    alike = [(likeness(new.keys(other), new.keys(need)), other) for other in goes.values()
+             if need_base(other, set(new.needs)) == kind]
+    for worth, other in sorted(alike, reverse=True):
+        block = next((one for one in answers.blocks if other in one.names), None)
+        if block and worth > 0.5 and all(new.path(need, name) for name in
+                                         re.findall(r"@(%s+)" % EDGE, block.text)):
+            block.names.append(need)
+            return "%s is new, and takes the answer of %s" % (need, other)
+    return "%s is new: %s, unless the answers name it" % (need, DEFAULT)
+
+
+def move_loop(block, old, new, notes):
+    """A loop's parameters: each local by its name where that is known, else by type and order."""
+    loop = block.names[0].split("-", 1)[1]
+    if not block.params or loop not in old.loops or loop not in new.loops:
+        return
+    (entry_a, present_a), (entry_b, present_b) = old.loops[loop], new.loops[loop]
+    if len(block.params) != len(entry_a) + len(present_a) or same_locals(old, new, loop):
+        return
+    now = dict(zip([name for name, _ in present_a], block.params[len(entry_a):]))
+
+    def same(i, j):
+        (_, sort_a, name_a), (_, sort_b, name_b) = entry_a[i], entry_b[j]
+        return sort_a == sort_b and name_a == name_b and (2 if name_a else 1)
+
+    pairs = {j: i for i, j in align(entry_a, entry_b, same)}
+    changed = [at for _, at in present_b]
+    params = []
+    for j, (local, _, name) in enumerate(entry_b):
+        fresh = (name or "x%d" % local) + ("₀" if local in changed else "")
+        params.append(block.params[pairs[j]] if j in pairs else fresh)
+    params += [now.get(name, name) for name, _ in present_b]
+    notes.append("%s takes other variables now: %s (was: %s)"
+                 % (block.names[0], " ".join(params), " ".join(block.params)))
+    block.params = params
+
+
+def same_locals(old, new, loop):
+    """Whether a loop takes the same locals, but for their numbers."""
+    a, b = ((([one[1:] for one in entry], [name for name, _ in present]))
+            for entry, present in (old.loops[loop], new.loops[loop]))
+    return a == b

@@ -1,0 +1,314 @@
+"""Tests of tools/proofkit: its parts alone, and the whole on a small crate with the toolchain."""
+import os
+import shutil
+import subprocess
+import sys
+import tempfile
+import unittest
+
+HERE = os.path.dirname(os.path.realpath(__file__))
+TOOL = os.path.join(HERE, "..", "proofkit")
+sys.dont_write_bytecode = True
+sys.path.insert(0, os.path.join(HERE, ".."))
+
+from prooflib.answers import Answers  # noqa: E402  (the path comes first)
+from prooflib.lifting import Count, lift_term  # noqa: E402
+from prooflib.moving import align, move  # noqa: E402
+from prooflib.places import Places, base, counted, load_places, save_places  # noqa: E402
+from prooflib.toolchain import put, read  # noqa: E402
+from prooflib.writing import with_paths  # noqa: E402
+
+ANSWERS = """\
+-- what the whole file is about
+
+use some.Module.{a, b}
+
+Inv-loop x i₀ i: (i ≤ length x)
+
+μ-loop: length x - i
+
+define
+helper : ℕ
+helper = 3
+
+-- why this holds
+unfolding a b
+returns, returns-2:
+    rw (@psl .ensures)
+"""
+
+
+def needs(**trails):
+    """Places of a function with no loop: the things on the way to each need, parted by spaces."""
+    trails = {need.replace("_", "-"): trail.split() for need, trail in trails.items()}
+    return Places([("Need", need) for need in trails], {}, trails, {})
+
+
+class Parts(unittest.TestCase):
+    """What needs no toolchain."""
+
+    def test_answers_are_shown_as_they_were_read(self):
+        answers = Answers.parse(ANSWERS)
+        self.assertEqual(answers.show(), ANSWERS)
+        self.assertEqual([block.kind for block in answers.blocks],
+                         ["loop", "loop", "define", "need"])
+        self.assertEqual(answers.blocks[3].names, ["returns", "returns-2"])
+        self.assertEqual(answers.blocks[3].opened, ["unfolding a b"])
+
+    def test_a_number_of_the_toolchain_is_no_part_of_a_name(self):
+        known = {"psl", "psl2", "word16", "if3", "loop2", "loop2-test", "loop"}
+        self.assertEqual(base("psl2", known), "psl")
+        self.assertEqual(base("word16", known), "word16")
+        self.assertEqual(base("if3", known), "if")
+        self.assertEqual(base("loop2-test", known), "loop-test")
+        self.assertEqual(counted(["psl", "x", "psl"]), ["psl#1", "x", "psl#2"])
+
+    def test_a_chain_is_named_and_written_again(self):
+        places = needs(returns="psl if1.taken psl2")
+        term = "f (c .before .before .psl .ensures) (c .psl2 .result) (c .before .if1 .taken) " \
+               "(c .before .before .before .args .x) (g c (c .before))"
+        count, faults = Count(), []
+        lifted = lift_term(term, "returns", places, count)
+        self.assertEqual(lifted, "f (@psl#1 .ensures) (@psl#2 .result) (@if .taken) "
+                                 "(@args .x) (g c (@to:if))")
+        self.assertEqual((count.named, count.left), (5, 0))
+        self.assertEqual(with_paths(lifted, "returns", places, faults), term)
+        self.assertEqual(faults, [])
+
+    def test_a_chain_with_no_name_stays_by_number_and_is_counted(self):
+        count = Count()
+        lifted = lift_term("c .before .other", "returns", needs(returns="psl if1.taken"), count)
+        self.assertEqual((lifted, count.left), ("c ^1 .other", 1))
+
+    def test_a_name_that_is_not_there_is_a_fault(self):
+        faults = []
+        with_paths("@psu .ensures", "returns", needs(returns="psl"), faults)
+        self.assertEqual(len(faults), 1)
+        self.assertIn("there is no @psu; there are psl", faults[0])
+
+    def test_places_are_loaded_as_they_were_saved(self):
+        places = Places([("Inv", "loop"), ("μ", "loop"), ("Need", "add"), ("Need", "returns")],
+                        {"loop": ([(1, "abcd", "a"), (2, "ef01", "")], [("i", 2)])},
+                        {"add": ["loop", "loop-test.taken"], "returns": ["loop", "loop-test.left"]},
+                        {"if1": [["if1", "=n"], ["=n"]]})
+        with tempfile.TemporaryDirectory() as room:
+            here = os.getcwd()
+            os.chdir(room)
+            try:
+                save_places("small", {"a/b": places})
+                self.assertEqual(load_places("small"), {"a/b": places})
+            finally:
+                os.chdir(here)
+
+    def test_pairs_rise_and_have_the_greatest_sum(self):
+        old, new = "abc", "xaybzc"
+        self.assertEqual(align(old, new, lambda i, j: old[i] == new[j]), [(0, 1), (1, 3), (2, 5)])
+
+    def moved(self, text, old, new):
+        answers = Answers.parse(text)
+        notes = move(answers, old, new)
+        return answers.show(), notes
+
+    def test_answers_follow_a_call_that_was_added(self):
+        shown, notes = self.moved("returns: @psl .ensures\n", needs(returns="psl word"),
+                                  needs(returns="psl word psl2"))
+        self.assertEqual(shown, "returns: @psl#1 .ensures\n")
+        self.assertEqual(notes, [])
+
+    def test_a_rival_beside_it_is_said(self):
+        shown, notes = self.moved("returns: @psl .ensures\n", needs(returns="psl"),
+                                  needs(returns="psl psl2"))
+        self.assertEqual(shown, "returns: @psl#1 .ensures\n")
+        self.assertEqual(notes, ["returns: @psl is taken for @psl#1; it may be @psl#2"])
+
+    def test_a_need_that_is_asked_no_more_keeps_its_answer(self):
+        shown, notes = self.moved("add: omega arith\n\nreturns: @psl .ensures\n",
+                                  needs(add="psl", returns="psl"), needs(returns="psl"))
+        self.assertIn("add(gone): omega arith", shown)
+        self.assertEqual(notes, ["add is asked no more; its answer stays in the file as add(gone)"])
+
+    def test_a_need_that_is_asked_twice_takes_one_answer(self):
+        new = needs(returns="psl if1.taken word", returns_2="psl if1.left word2")
+        shown, notes = self.moved("returns: @psl .ensures\n", needs(returns="psl word"), new)
+        self.assertEqual(shown, "returns, returns-2: @psl .ensures\n")
+        self.assertEqual(notes, ["returns-2 is new, and takes the answer of returns"])
+
+
+class SmallCrate(unittest.TestCase):
+    """The whole, on the crate of small/: each test has a copy of its own, lifted."""
+
+    @classmethod
+    def setUpClass(cls):
+        cls.room = tempfile.mkdtemp()
+        cls.master = os.path.join(cls.room, "master")
+        stored = os.path.join(HERE, "small")
+        for place, _, names in os.walk(stored):
+            for name in names:
+                path = os.path.relpath(os.path.join(place, name), stored)
+                to = path if path == "crates.txt" else path.removesuffix(".txt")
+                put(os.path.join(cls.master, to), read(os.path.join(place, name)))
+        cls.lifted = cls.call(cls.master, TOOL, "lift", "small")
+
+    @classmethod
+    def tearDownClass(cls):
+        shutil.rmtree(cls.room)
+
+    @staticmethod
+    def call(folder, *words):
+        return subprocess.run(words, cwd=folder, capture_output=True, text=True, check=False)
+
+    def setUp(self):
+        self.root = os.path.join(self.room, self.id().split(".")[-1])
+        shutil.copytree(self.master, self.root)
+
+    def kit(self, *words):
+        return self.call(self.root, TOOL, *words)
+
+    def path(self, name):
+        return os.path.join(self.root, "crates/small", name)
+
+    def text(self, name):
+        return read(self.path(name))
+
+    def edit(self, name, old, new):
+        self.assertEqual(self.text(name).count(old), 1, "%s in %s" % (old, name))
+        put(self.path(name), self.text(name).replace(old, new))
+
+    def assert_proved(self, functions):
+        done = self.call(self.root, "rt", "dev", "small")
+        said = done.stdout + done.stderr
+        self.assertIn("logic=proved functions=%d " % functions, said, said[-2000:])
+
+    def assert_current(self):
+        said = self.kit("current")
+        self.assertEqual(said.returncode, 0, said.stdout)
+        self.assertIn("3 proofs are what their answers give, 0 faults", said.stdout)
+
+    def assert_refused(self, *words):
+        said = self.kit("current")
+        self.assertEqual(said.returncode, 1, said.stdout)
+        for word in words:
+            self.assertIn(word, said.stdout)
+
+    def test_lift_names_every_fact(self):
+        self.assertEqual(self.lifted.returncode, 0, self.lifted.stdout + self.lifted.stderr)
+        self.assertIn("3 proofs lifted, 0 left alone; 10 chains by name, 0 by number",
+                      self.lifted.stdout)
+        self.assertIn("returns: @next#2 .ensures ∙ ap nextOf (@next#1 .ensures)",
+                      self.text("answers/after_next.txt"))
+        self.assertIn("w @if>1>=n", self.text("answers/count.txt"))
+        self.assertNotIn(".before", self.text("answers/count.txt"))
+        self.assertNotIn("search needs", self.text("answers/count.txt"))
+
+    def test_lift_drops_positions_and_idle_imports_and_keeps_comments(self):
+        proof = self.text("proofs/count/Proof.antt")
+        self.assertNotIn("-- src/", proof)
+        self.assertNotIn(" as reads", proof)
+        self.assertIn("-- the loop's test, by name", proof)
+        self.assertIn("-- `small::count`: no more are counted than were passed.", proof)
+
+    def test_what_was_lifted_is_proved_and_current(self):
+        self.assert_current()
+        self.assert_proved(3)
+
+    def test_write_changes_nothing_if_nothing_changed(self):
+        said = self.kit("write", "small")
+        self.assertIn("3 proofs, 0 written anew", said.stdout)
+        self.assert_current()
+
+    def add(self, code):
+        put(self.path("src/lib.rt"), self.text("src/lib.rt") + "\n" + code)
+
+    def test_an_added_local_and_call_cost_no_line_by_hand(self):
+        self.add("pub fn half(x: u64) -> u64 {\n    x / 2\n}\n")
+        self.edit("src/lib.rt", "    let y = next(x);\n",
+                  "    let other: u64 = 7;\n    let y = next(x);\n    let z = half(other);\n")
+        self.edit("src/lib.rt", "    let mut i = 0;\n",
+                  "    let one: u64 = 1;\n    let mut i = 0;\n")
+        said = self.kit("write", "small").stdout
+        self.assertIn("Inv-loop takes other variables now: a b n₀ x4 i₀ n i", said)
+        self.assertIn("c .before .before .next .ensures", self.text("proofs/after_next/Proof.antt"))
+        self.assert_current()
+        self.assert_proved(4)
+
+    def test_a_call_of_the_same_function_beside_it_is_said(self):
+        self.edit("src/lib.rt", "    next(y)\n", "    let z = next(y);\n    next(y)\n")
+        said = self.kit("write", "small").stdout
+        self.assertIn("returns: @next#2 is taken for @next#2; it may be @next#3", said)
+        self.edit("answers/after_next.txt", "@next#2", "@next#3")
+        self.kit("write", "small")
+        self.assert_proved(3)
+
+    def test_a_branch_around_the_code_takes_the_same_answers(self):
+        self.edit("src/lib.rt", "    next(y)\n",
+                  "    if x < 9 {\n        next(y)\n    } else {\n        next(y)\n    }\n")
+        said = self.kit("write", "small").stdout
+        self.assertIn("returns-2 is new, and takes the answer of returns", said)
+        self.assert_current()
+        self.assert_proved(3)
+
+    def test_an_edited_proof_is_refused_and_mended(self):
+        self.edit("proofs/after_next/Proof.antt", "returns c =", "returns c = (λ x. x) $")
+        self.assert_refused("crates/small/proofs/after_next/Proof.antt is not what",
+                            "crates/small/answers/after_next.txt gives",
+                            "tools/proofkit write small after_next",
+                            "tools/proofkit lift small after_next")
+        self.kit("write", "small", "after_next")
+        self.assert_current()
+
+    def test_answers_that_were_not_written_are_refused(self):
+        self.edit("answers/after_next.txt", "@next#1", "@next#2")
+        self.assert_refused("is not what", "tools/proofkit write small after_next")
+
+    def test_an_answer_to_what_is_not_asked_is_refused(self):
+        put(self.path("answers/next.txt"), self.text("answers/next.txt") + "\nreturns-9: refl\n")
+        self.assert_refused("it answers returns-9, which the function does not ask")
+
+    def test_two_answers_to_one_need_are_refused(self):
+        put(self.path("answers/next.txt"), self.text("answers/next.txt") + "\nreturns: refl\n")
+        self.assert_refused("it answers returns twice")
+
+    def test_a_name_that_is_not_there_is_refused(self):
+        self.edit("answers/after_next.txt", "@next#1", "@other")
+        self.assert_refused("returns: there is no @other; there are next#1, next#2")
+
+    def test_a_proof_with_no_answers_is_refused(self):
+        os.remove(self.path("answers/next.txt"))
+        self.assert_refused("crates/small/proofs/next/Proof.antt has no answers",
+                            "tools/proofkit lift small next")
+        self.kit("lift", "small", "next")
+        self.assert_current()
+
+    def test_a_new_function_is_begun_shown_and_guessed(self):
+        self.add("pub fn third(x: u64) -> u64\n"
+                 "    ensures { λ r. ⌜ r ≡ nextOf (nextOf (nextOf x)) ⌝ }\n"
+                 "{\n    let y = after_next(x);\n    next(y)\n}\n")
+        said = self.kit("scaffold", "small").stdout
+        self.assertIn("begun: crates/small/answers/third.txt", said)
+        self.assertEqual(self.text("answers/third.txt"), "returns: ?\n")
+        shown = self.kit("holes", "small").stdout
+        self.assertIn("(@next .result)", shown)
+        self.assertIn("nextOf (@args .x)", shown)
+        self.kit("auto", "small", "third")
+        self.assertIn("rw (← @after-next .ensures,", self.text("answers/third.txt"))
+        self.assert_proved(4)
+
+    def test_places_lists_what_can_be_named(self):
+        said = self.kit("places", "small", "count", "loop-again").stdout
+        for word in ("@args", "@loop ", ".inv", "@loop-test", ".taken", "@if", ".came"):
+            self.assertIn(word, said)
+
+    def test_wrong_words_are_answered_with_help(self):
+        for words, answer in (("wrote", "there is no command wrote"),
+                              ("write", "write takes other words"),
+                              ("write large", "crates.txt lists no crate large"),
+                              ("places small count x", "count asks no x"),
+                              ("holes small wide", "the width is a number of characters"),
+                              ("write small none", "there is no crates/small/answers/none.txt")):
+            said = self.kit(*words.split())
+            self.assertEqual(said.returncode, 2, words)
+            self.assertIn(answer, said.stderr)
+
+
+if __name__ == "__main__":
+    unittest.main()
