@@ -4,14 +4,14 @@ use mathlib.Core.List.{List}
 use mathlib.Core.Path.{_≡_, refl, sym, ap, _∙_, subst}
 use Prim.Native.Nat.{ℕ, _+_, _-_, _%_, _<_, _≤_, min}
 use native.Mathlib.Omega.{arith}
-use borrow.Author.Tests.{ltb-true, ltb-false, lt-ltb, le-ltb, le-leb, lt-leb}
+use borrow.Author.Tests.{ltb-true, ltb-false, le-leb, lt-leb}
 use lib.Dec.{ltb, leb}
 use lib.ListN.{getD, set, take, drop, length, length-take, length-drop, List·getD-eq-default}
 use lib.Seq.{getD-take, getD-drop, take-set-le, take-set-lt, drop-set-lt, drop-set-add, set-out, take-all}
 use Rattle.cpu.specs.Choice.{if_then_else_}
 use Rattle.cpu.specs.Core.{cpuOf, pendingOf, steppedOf, offeredOf}
 use Rattle.cpu.specs.Instruction.{stepOf}
-use Rattle.cpu.specs.Machine.{Machine, machineOf, portsOf, effectOf, afterStep, machineStep}
+use Rattle.cpu.specs.Machine.{machineOf, portsOf, effectOf, afterStep, machineStep}
 use Rattle.cpu.specs.Partition.{Parts, boundsOf, machineAt, offerOf, Settled, settled, settledOf}
 use Rattle.cpu.specs.Result.{Ports, Stepped}
 use Rattle.cpu.specs.StepLaws.{step-ends, Allowed, ending-allowed}

@@ -1,5 +1,4 @@
 -- Laws that the checker has shown: document 01's proved cases K1 to K9 and K12, computed by the definitions.
-use mathlib.Core.Bool.{false}
 use mathlib.Core.List.{List, [], _∷_}
 use mathlib.Core.Path.{_≡_, refl}
 use Prim.Native.Nat.{ℕ}

@@ -1,10 +1,10 @@
 -- Laws that the checker has shown: what a step of the lone machine keeps. A layer above cites these, and no definition's text.
 use mathlib.Core.Bool.{Bool, true, false}
 use mathlib.Core.Path.{_≡_, refl, _∙_}
-use Prim.Native.Nat.{ℕ, zero, suc, _+_, _<_, _≤_}
+use Prim.Native.Nat.{ℕ, zero, suc, _<_, _≤_}
 use native.Mathlib.Omega.{arith}
 use borrow.Author.Tests.{ltb-true, ltb-false, leb-true, leb-false}
-use lib.ListN.{length, set, length-set}
+use lib.ListN.{length, length-set}
 use Rattle.cpu.specs.Choice.{if_then_else_}
 use Rattle.cpu.specs.Instruction.{stepOf}
 use Rattle.cpu.specs.Machine.{Machine, portsOf, effectOf, afterStep, machineStep, times}
@@ -35,7 +35,6 @@ withStatus n m = record { cpu = m .cpu; status = n; window = m .window; input = 
 -- what a step that is made leaves
 record Stepping (m n : Machine) : Type 0 where
   sizes : SameSizes m n
-  filled : n .filled ≡ m .filled
   sound : MachineSound m → MachineSound n
   undone : 3 ≤ n .status → n ≡ withStatus (n .status) m
 
@@ -47,7 +46,6 @@ module _ (m : Machine) where
       let o = z .output in
       record {
         sizes = z;
-        filled = f;
         sound = λ s.
             let a = s .filled in
             let b : n .read ≤ m .filled = r (s .read) in
@@ -61,7 +59,6 @@ module _ (m : Machine) where
   still n l h w f =
       record {
         sizes = record { window = refl; input = refl; output = refl };
-        filled = refl;
         sound = λ s.
             let r = s .read in
             let o = s .written in
@@ -106,11 +103,6 @@ module _ (m : Machine) where
   unfolding machineStep
   step-sizes = choose _ (SameSizes m) (record { window = refl; input = refl; output = refl }) (made .sizes)
 
-  -- how far the input is filled stays
-  pub step-filled : machineStep m .filled ≡ m .filled
-  unfolding machineStep
-  step-filled = choose _ (λ (n : Machine). n .filled ≡ m .filled) refl (made .filled)
-
   -- a step keeps a sound machine sound
   pub step-sound : MachineSound m → MachineSound (machineStep m)
   unfolding machineStep
@@ -129,11 +121,6 @@ times-sizes (suc n) m =
     let x = step-sizes (times n machineStep m) in
     let y = times-sizes n m in
     record { window = x .window ∙ y .window; input = x .input ∙ y .input; output = x .output ∙ y .output }
-
-pub times-filled : (n : ℕ) (m : Machine) → times n machineStep m .filled ≡ m .filled
-unfolding times
-times-filled zero m = refl
-times-filled (suc n) m = step-filled (times n machineStep m) ∙ times-filled n m
 
 pub times-sound : (n : ℕ) (m : Machine) → MachineSound m → MachineSound (times n machineStep m)
 unfolding times

@@ -4,7 +4,7 @@ use mathlib.Core.List.{List}
 use mathlib.Core.Path.{_≡_}
 use Prim.Native.Nat.{ℕ, _+_, _%_, _-_, _<_, _≤_, min}
 use lib.Dec.{ltb, leb}
-use lib.ListN.{getD, set, take, drop}
+use lib.ListN.{set, take, drop}
 use Rattle.cpu.specs.Choice.{if_then_else_}
 use Rattle.cpu.specs.Machine.{Machine}
 use Rattle.cpu.specs.declared.partition.Bounds.{Bounds}

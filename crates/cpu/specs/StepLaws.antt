@@ -5,7 +5,6 @@ use mathlib.Core.Path.{_≡_, refl}
 use Prim.Native.Nat.{ℕ, zero, suc, _+_, _*_, _/_, _%_, _<_, _≤_}
 use native.Mathlib.Omega.{arith}
 use borrow.Author.Tests.{ltb-true}
-use lib.Dec.{ltb}
 use lib.IntN.{ℤ, pos, negsuc}
 use lib.ListN.{getD, set, length}
 use Rattle.cpu.specs.Address.{inPage, onward, fetchOf, withByte, withAddress, addressOf, pointerOf, throughOf, displacementOf, displacedOf, relativeOf}
@@ -16,7 +15,7 @@ use Rattle.cpu.specs.Instruction.{executeOf, stepOf}
 use Rattle.cpu.specs.Operand.{Operand, Found, NoOperand, steppedIndexOf, registerOperandOf, immediateOperandOf, relativeOperandOf, absoluteOperandOf, operandOf, withOperand, usedOf, withOperandOf}
 use Rattle.cpu.specs.Port.{readOf, writeOf}
 use Rattle.cpu.specs.Result.{Ports, Effect, Nothing, Store, Take, Put, Stepped, endedOf, goingOf, stoppedOf, afterOf, advancedOf, appliedOf, changedOf, operatedOf}
-use Rattle.cpu.specs.State.{fieldSP, withSP, storedPsu, counterOf, psuOf, returnOf, withCounter, withRegister, withPsu, withPsl, withReturn, calledOf, returnedOf}
+use Rattle.cpu.specs.State.{withSP, storedPsu, counterOf, psuOf, returnOf, withCounter, withRegister, withPsu, withPsl, withReturn, calledOf, returnedOf}
 use Rattle.cpu.specs.Status.{maskedOf, testedOf}
 use Rattle.cpu.specs.declared.address.Address.{Address}
 use Rattle.cpu.specs.declared.address.Fetched.{Fetched}
@@ -370,20 +369,3 @@ ending-allowed (puts next v k h) = h
 ending-allowed (wants h) = tt
 ending-allowed (fills h) = tt
 ending-allowed (stops n h l) = tt
-
--- a store lies inside the window
-abbrev pub StoreInside : List ℕ → Effect → Type 0
-StoreInside w Nothing = Unit {0}
-StoreInside w (Store a v) = a .0 < length w
-StoreInside w Take = Unit {0}
-StoreInside w (Put v) = Unit {0}
-
-pub store-inside : {cpu : Cpu} {w : List ℕ} {p : Ports} {s : Stepped} → Ending cpu w p s → StoreInside w (s .effect)
-store-inside (goes next k) = tt
-store-inside (halts next k) = tt
-store-inside (stores next a v k h) = h
-store-inside (takes next k h) = tt
-store-inside (puts next v k h) = tt
-store-inside (wants h) = tt
-store-inside (fills h) = tt
-store-inside (stops n h l) = tt

@@ -1,5 +1,5 @@
 ghost use mathlib.Core.Path.{_≡_};
-ghost use Prim.Native.Nat.{ℕ, _+_, _*_, _%_, _<_};
+ghost use Prim.Native.Nat.{_<_};
 ghost use lib.Signed.{mag};
 ghost use Rattle.cpu.specs.Address.{inPage, onward, addressOf, fetchOf, pointerOf, throughOf, displacementOf, displacedOf, relativeOf};
 

@@ -1,5 +1,5 @@
 ghost use mathlib.Core.Path.{_≡_};
-ghost use Prim.Native.Nat.{ℕ, _<_};
+ghost use Prim.Native.Nat.{_<_};
 ghost use Rattle.cpu.specs.State.{bitRS};
 ghost use Rattle.cpu.specs.Alu.{conditionOf, withCC, withFlags, sumOf, carryOf, digitCarryOf, overflowOf, addedOf, carryInOf, loadedOf, signedOf, compareOf, comparedOf, operateOf, testOf, rotatedOf, rotateLeftOf, rotateRightOf, digitOf, decimalOf};
 use crate::decode::Operation;

@@ -1,6 +1,6 @@
 ghost use mathlib.Core.Bool.{not};
 ghost use mathlib.Core.Path.{_≡_};
-ghost use Prim.Native.Nat.{ℕ, _<_};
+ghost use Prim.Native.Nat.{_<_};
 ghost use Rattle.cpu.specs.Branch.{meetsOf, countedOf, notZeroOf, takenOf, callsOf, jumpedOf, branchedOf, targetOf, branchOf, zeroBranchOf, indexedBranchOf, returnIfOf, enabledOf, returnEnableOf};
 ghost use Rattle.cpu.specs.Core.{cpuOf, steppedOf};
 use crate::address;

@@ -1,6 +1,6 @@
 ghost use mathlib.Core.Path.{_≡_};
 ghost use mathlib.Core.List.{[], _∷_};
-ghost use Prim.Native.Nat.{ℕ, _*_, _/_, _%_, _<_};
+ghost use Prim.Native.Nat.{_<_};
 ghost use Rattle.cpu.specs.Core.{byteAt, putByte, quarterAt, putQuarter, bytesOf, bankedOf, cpuOf};
 ghost use Rattle.cpu.specs.State.{bitRS, counterOf, psuOf, pslOf, registerOf, returnOf, withCounter, withRegister, withPsu, withPsl, withReturn, calledOf, returnedOf};
 use crate::address::Address;

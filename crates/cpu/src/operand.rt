@@ -1,5 +1,5 @@
 ghost use mathlib.Core.Path.{_≡_};
-ghost use Prim.Native.Nat.{ℕ, _<_};
+ghost use Prim.Native.Nat.{_<_};
 ghost use Rattle.cpu.specs.Core.{cpuOf, steppedOf, suppliedOf};
 ghost use Rattle.cpu.specs.Operand.{indexOf, indexedAddressOf, dataAddressOf, dataRegisterOf, steppedIndexOf, registerOperandOf, immediateOperandOf, relativeOperandOf, absoluteOperandOf, operandOf, withOperandOf};
 use crate::address;

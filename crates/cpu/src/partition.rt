@@ -1,5 +1,5 @@
 ghost use mathlib.Core.Path.{_≡_};
-ghost use Prim.Native.Nat.{ℕ, _+_, _<_, _≤_, min};
+ghost use Prim.Native.Nat.{_<_, _≤_, min};
 ghost use lib.ListN.{length, take};
 ghost use Rattle.cpu.specs.Core.{cpuOf, steppedOf, offeredOf};
 ghost use Rattle.cpu.specs.Partition.{boundsOf, Parts, offerOf, settled, settledOf};

@@ -1,5 +1,5 @@
 ghost use mathlib.Core.Path.{_≡_};
-ghost use Prim.Native.Nat.{ℕ, _<_};
+ghost use Prim.Native.Nat.{_<_};
 ghost use lib.ListN.{getD};
 ghost use Rattle.cpu.specs.Core.{cpuOf, steppedOf, offeredOf};
 ghost use Rattle.cpu.specs.Port.{readOf, writeOf};

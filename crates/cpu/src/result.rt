@@ -1,5 +1,5 @@
 ghost use mathlib.Core.Path.{_≡_};
-ghost use Prim.Native.Nat.{ℕ, _<_};
+ghost use Prim.Native.Nat.{_<_};
 ghost use Rattle.cpu.specs.Core.{cpuOf, pendingOf, steppedOf};
 ghost use Rattle.cpu.specs.Result.{endedOf, goingOf, stoppedOf, afterOf, advancedOf, appliedOf, changedOf, operatedOf};
 ghost use Rattle.cpu.specs.State.{bitRS, pslOf};

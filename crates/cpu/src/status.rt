@@ -1,5 +1,5 @@
 ghost use mathlib.Core.Path.{_≡_};
-ghost use Prim.Native.Nat.{ℕ, _-_};
+ghost use Prim.Native.Nat.{_-_};
 ghost use lib.Bits.{bitAnd, bitOr};
 ghost use Rattle.cpu.specs.Core.{cpuOf, steppedOf};
 ghost use Rattle.cpu.specs.State.{storedPsu, psuOf, pslOf, withPsu, withPsl};

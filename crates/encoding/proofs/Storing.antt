@@ -1,6 +1,6 @@
 -- The stores of a state into 34 bytes leave exactly its bytes.
 use mathlib.Core.Path.{_≡_, refl, sym, ap, _∙_}
-use mathlib.Core.List.{List, _++_}
+use mathlib.Core.List.{List}
 use Prim.Native.Nat.{ℕ}
 use lib.ListN.{getD, length}
 use Rattle.cpu.specs.declared.machine.State.{State}

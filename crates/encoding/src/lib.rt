@@ -1,7 +1,7 @@
 // A machine's state as 34 bytes, and back.
 ghost use mathlib.Core.Path.{_≡_};
-ghost use Prim.Native.Nat.{_+_, _*_, _<_};
-ghost use lib.ListN.{getD, length, set};
+ghost use Prim.Native.Nat.{_<_};
+ghost use lib.ListN.{set};
 ghost use Rattle.encoding.specs.Encoding.{bytesOf, cpuAt, numberAt, registersAt, returnsAt, stateOf};
 ghost use Rattle.encoding.specs.Stores.{cpuStored, numberStored, registersStored, returnsStored, stateStored};
 use cpu::Cpu;

@@ -5,7 +5,7 @@ use Prim.Native.Nat.{ℕ, _+_, _*_, _≤_, _<_}
 use native.Mathlib.Numerals.{add-one}
 use native.Mathlib.Omega.{arith}
 use lib.ListN.{length, getD, take, drop, length-append, take-append-drop}
-use lib.Seq.{drop-drop, drop-length, take-suc, take-all}
+use lib.Seq.{drop-length, take-suc, take-all}
 use Rattle.slices.specs.Laws.{copied-whole, copied-next, copied-front}
 use Rattle.slices.specs.Slices.{copied}
 use Rattle.supervisor.specs.Table.{noSlot}

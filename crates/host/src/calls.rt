@@ -1,6 +1,5 @@
 // Calls on a table that a host lends as 364 bytes: each decodes the table, makes the call by value, and encodes only what was accepted.
 ghost use mathlib.Core.Path.{_≡_};
-ghost use Prim.Native.Nat.{_+_, _*_};
 ghost use lib.ListN.{length};
 ghost use Rattle.supervisor.specs.Events as events;
 ghost use Rattle.host.specs.Calls.{answerOf, answered, bytesAfter, hosted, hostDrained, hostNew, hostOutcome, hostReport, reportBytes};

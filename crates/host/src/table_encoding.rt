@@ -1,6 +1,6 @@
 // A table as 364 bytes, and back. Eight slots share one function each way, over the place where a slot's 45 bytes start.
 ghost use mathlib.Core.Path.{_≡_};
-ghost use Prim.Native.Nat.{_+_, _*_, _≤_};
+ghost use Prim.Native.Nat.{_+_, _≤_};
 ghost use lib.ListN.{length};
 ghost use Rattle.slices.specs.Slices.{copied, partOf};
 ghost use Rattle.host.specs.TableEncoding.{fourAt, fourOf, partitionAt, partitionBytes, slotBytes, slotFrom, tableAt, tableBytes};

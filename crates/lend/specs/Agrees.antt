@@ -1,25 +1,24 @@
 -- Laws that the checker has shown: for a slot of a sound table, with its memory, draining over the lent slot gives and leaves what
 -- draining there does. So it stays out of the list of calls of demand 3, and nothing is lost.
-use mathlib.Core.Bool.{Bool, true, false, cond, _&&_}
-use mathlib.Core.List.{List, _++_}
+use mathlib.Core.Bool.{Bool, true, false, _&&_}
+use mathlib.Core.List.{List}
 use mathlib.Core.Path.{_≡_, refl, sym, ap, _∙_}
 use Prim.Native.Nat.{ℕ, _<_}
 use native.Mathlib.Omega.{arith}
 use borrow.Author.Tests.{eq-eqb, eqb-true, le-ltb}
 use lib.Dec.{eqb}
-use lib.ListN.{length, drop}
+use lib.ListN.{length}
 use lib.Seq.{set-getD}
 use Rattle.pattern.specs.Refusals.{unless}
 use Rattle.pattern.specs.Values.{within}
-use Rattle.supervisor.specs.Events as events
 use Rattle.supervisor.specs.Events.{drain, refusal, effect, afterCall, outcome, outcomeOf}
-use Rattle.supervisor.specs.Operations.{System, system, refusalBy, drainRefusal, drainedState, afterDrain, writtenBytes, drainedCount, drainedBuffer}
-use Rattle.supervisor.specs.Soundness.{Sound, sound-fact, within-test}
+use Rattle.supervisor.specs.Operations.{System, system, refusalBy, drainRefusal, afterDrain, writtenBytes, drainedCount, drainedBuffer}
+use Rattle.supervisor.specs.Soundness.{sound-fact, within-test}
 use Rattle.supervisor.specs.Table.{slotAt, withSlot, slotSound, sound}
 use Rattle.supervisor.specs.Tests.{and-test}
 use Rattle.supervisor.specs.declared.table.Slot.{Slot}
 use Rattle.supervisor.specs.declared.table.Table.{Table}
-use Rattle.lend.specs.Lent.{Outcome, lent, slotRefusal, writtenIn, drainSlotOf}
+use Rattle.lend.specs.Lent.{Outcome, slotRefusal, writtenIn, drainSlotOf}
 
 -- an outcome over slot k of a table, its slot put back, is what a call of `drain` at k answers and leaves: the three equations of its
 -- contract

@@ -1,14 +1,14 @@
 -- Laws that the checker has shown: a slot that is the only one of a table.
-use mathlib.Core.Bool.{Bool, true, false, cond, not, _&&_, _||_}
-use mathlib.Core.List.{List, [], _∷_, _++_}
+use mathlib.Core.Bool.{Bool, true, false, cond, _&&_}
+use mathlib.Core.List.{List, _++_}
 use mathlib.Core.Logic.{_≢_}
-use mathlib.Core.Path.{_≡_, refl, sym, ap, _∙_}
-use Prim.Native.Nat.{ℕ, zero, suc, _+_, _≤_, _<_}
+use mathlib.Core.Path.{_≡_, refl, ap}
+use Prim.Native.Nat.{ℕ}
 use native.Mathlib.Omega.{arith}
 use borrow.Author.Tests.{eq-eqb, eqb-true, le-leb}
-use lib.Dec.{eqb, ltb, leb}
+use lib.Dec.{eqb, leb}
 use lib.ListN.{length, drop}
-use Rattle.pattern.specs.Refusals.{_gives_, unless}
+use Rattle.pattern.specs.Refusals.{unless}
 use Rattle.pattern.specs.Values.{within}
 use Rattle.supervisor.specs.Events.{Outcome, drain, refusal, effect, afterCall, outcome, outcomeOf}
 use Rattle.supervisor.specs.Operations.{System, system, emptySlot, tableOf, newRefusal, newOf, refusalBy, drainRefusal, drainedState, afterDrain, writtenBytes, drainedCount, drainedBuffer}

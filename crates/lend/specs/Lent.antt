@@ -1,6 +1,6 @@
 -- Definitions that must be believed: draining over one slot's record, lent with its memory and a buffer (document 01, "Floor and bays":
 -- collecting over one station's record).
-use mathlib.Core.Bool.{Bool, cond, not, _&&_}
+use mathlib.Core.Bool.{cond, not, _&&_}
 use mathlib.Core.List.{List, [], _∷_, _++_}
 use Prim.Native.Nat.{ℕ, _+_}
 use lib.Dec.{eqb, ltb}

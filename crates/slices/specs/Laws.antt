@@ -5,11 +5,11 @@ use mathlib.Core.Path.{_≡_, refl, sym, ap, subst⁻¹, _∙_}
 use mathlib.Core.List.{List, [], _∷_, _++_, append-assoc, append-nil}
 use native.Mathlib.Nat.{add-assoc, add-zero, zero-add, suc-add}
 use native.Mathlib.Omega.{arith}
-use lib.ListN.{length, getD, take, drop, replicate, length-append, length-take, length-drop, drop-of-length-le, length-replicate, getD-replicate}
-use lib.Seq.{take-at, drop-at, take-nil, drop-nil, drop-drop, take-take, take-append-le, drop-append-le, take-append-seam, getD-take, getD-drop, length-take-le}
+use lib.ListN.{length, getD, take, drop, length-append, length-take, length-drop, drop-of-length-le}
+use lib.Seq.{take-at, drop-at, take-nil, drop-nil, drop-drop, take-take, take-append-le, take-append-seam, getD-take, getD-drop, length-take-le}
 use lib.Dec.{leb}
 use borrow.Author.Tests.{leb-true, le-leb, lt-leb}
-use Rattle.slices.specs.Slices.{Bytes, partOf, copied, filled}
+use Rattle.slices.specs.Slices.{Bytes, partOf, copied}
 
 -- a part is the end of a front
 pub part-front : (s : List ℕ) (at n : ℕ) → partOf s at n ≡ drop at (take (at + n) s)
@@ -88,17 +88,9 @@ module _ (d : List ℕ) (at : ℕ) (s : List ℕ) where
       ap (drop at) (copied-whole d at s h ∙ append-assoc (take at d) s (drop (at + length s) d))
       ∙ drop-at (take at d) (s ++ drop (at + length s) d) at e
 
-  -- the stretch is the source, and a part of it a part of the source
+  -- the stretch is the source
   pub copied-inside : at + length s ≤ length d → partOf (copied d at s) at (length s) ≡ s
   copied-inside h = ap (take (length s)) (copied-from h) ∙ take-append-seam s (drop (at + length s) d)
-
-  pub part-inside-copy : at + length s ≤ length d → (k n : ℕ) → k + n ≤ length s → partOf (copied d at s) (at + k) n ≡ partOf s k n
-  part-inside-copy h k n inside =
-      let few : n ≤ length (drop k s) = simp length-drop (omega arith) in
-      ap (take n) (
-      sym (drop-drop k at (copied d at s)) ∙ ap (drop k) (copied-from h) ∙ drop-append-le k s (drop (at + length s) d) (omega arith)
-      )
-      ∙ take-append-le n (drop k s) (drop (at + length s) d) few
 
   -- a part that ends before the place, or begins behind the source, is kept
   pub part-before-copy : (from n : ℕ) → from + n ≤ at → partOf (copied d at s) from n ≡ partOf d from n
@@ -107,7 +99,7 @@ module _ (d : List ℕ) (at : ℕ) (s : List ℕ) where
   pub part-after-copy : (from n : ℕ) → at + length s ≤ from → partOf (copied d at s) from n ≡ partOf d from n
   part-after-copy from n h = ap (take n) (copied-after from h)
 
-  -- the same three, byte by byte
+  -- the same two, byte by byte
   pub byte-before-copy : (i : ℕ) → i < at → getD (copied d at s) i 0 ≡ getD d i 0
   byte-before-copy i h =
       sym (getD-take at (copied d at s) i 0 h)
@@ -117,12 +109,6 @@ module _ (d : List ℕ) (at : ℕ) (s : List ℕ) where
   pub byte-after-copy : (i : ℕ) → at + length s ≤ i → getD (copied d at s) i 0 ≡ getD d i 0
   byte-after-copy i h =
       rw add-zero at (sym (getD-drop i (copied d at s) 0 0) ∙ ap (λ (l : List ℕ). getD l 0 0) (copied-after i h) ∙ getD-drop i d 0 0)
-
-  pub byte-inside-copy : at + length s ≤ length d → (i : ℕ) → i < length s → getD (copied d at s) (at + i) 0 ≡ getD s i 0
-  byte-inside-copy fits i h =
-      sym (getD-drop at (copied d at s) i 0)
-      ∙ sym (getD-take (length s) (drop at (copied d at s)) i 0 h)
-      ∙ ap (λ (l : List ℕ). getD l i 0) (copied-inside fits)
 
 -- two copies, the second where the first ends, are one
 pub copied-next : (d e f : List ℕ) (at n : ℕ) (s t : List ℕ) → e ≡ copied d at s → f ≡ copied e n t → n ≡ at + length s
@@ -149,25 +135,3 @@ copied-front d s h = copied-whole d 0 s (omega arith) ∙ rw zero-add
 pub copied-all : (d s : List ℕ) → length s ≡ length d → copied d 0 s ≡ s
 copied-all d s h =
     copied-front d s (omega arith) ∙ ap (λ (l : List ℕ). s ++ l) (drop-of-length-le d {i = length s} (omega arith)) ∙ append-nil s
-
--- a fill is a copy, so copied-length, copied-before, part-before-copy and byte-before-copy hold of it as they stand; the others, by its n
-module _ (d : List ℕ) (at n b : ℕ) where
-  fill-size : length (replicate n b) ≡ n
-  fill-size = length-replicate n b
-
-  pub filled-after : (m : ℕ) → at + n ≤ m → drop m (filled d at n b) ≡ drop m d
-  filled-after m h = copied-after d at (replicate n b) m (omega (arith, fill-size))
-
-  pub filled-inside : at + n ≤ length d → partOf (filled d at n b) at n ≡ replicate n b
-  filled-inside h =
-      sym (ap (partOf (filled d at n b) at) fill-size) ∙ copied-inside d at (replicate n b) (omega (arith, fill-size))
-
-  pub part-after-fill : (from m : ℕ) → at + n ≤ from → partOf (filled d at n b) from m ≡ partOf d from m
-  part-after-fill from m h = part-after-copy d at (replicate n b) from m (omega (arith, fill-size))
-
-  pub byte-after-fill : (i : ℕ) → at + n ≤ i → getD (filled d at n b) i 0 ≡ getD d i 0
-  byte-after-fill i h = byte-after-copy d at (replicate n b) i (omega (arith, fill-size))
-
-  pub byte-inside-fill : at + n ≤ length d → (i : ℕ) → i < n → getD (filled d at n b) (at + i) 0 ≡ b
-  byte-inside-fill fits i h =
-      byte-inside-copy d at (replicate n b) (omega (arith, fill-size)) i (omega (arith, fill-size)) ∙ getD-replicate n i b 0 h

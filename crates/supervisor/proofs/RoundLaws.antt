@@ -1,8 +1,8 @@
 -- A quantum on the lent bytes of a partition is the machine's, and a round by loops is the definition's.
-use mathlib.Core.Bool.{true, false}
+use mathlib.Core.Bool.{true}
 use mathlib.Core.List.{List, _++_, append-assoc}
 use mathlib.Core.Path.{_≡_, refl, sym, ap, _∙_, subst}
-use Prim.Native.Nat.{ℕ, _+_, _-_, _≤_, _<_}
+use Prim.Native.Nat.{ℕ, _+_, _≤_, _<_}
 use native.Mathlib.Omega.{arith}
 use borrow.Author.Tests.{eqb-true, not-false}
 use lib.ListN.{length, take, drop}
@@ -17,7 +17,7 @@ use Rattle.supervisor.specs.Effects.{first-none}
 use Rattle.supervisor.specs.Events.{run, refusal, effect}
 use Rattle.supervisor.specs.Machines.{bytes-again}
 use Rattle.supervisor.specs.Operations.{System, system, slotOf, stateOf, bytesOf, advanced, turn, turns, runRefusal, afterRun}
-use Rattle.supervisor.specs.Rounds.{Good, Moved, slot-inside, resting-turn, turns-moved, rounds-moved}
+use Rattle.supervisor.specs.Rounds.{Good, slot-inside, resting-turn, turns-moved, rounds-moved}
 use Rattle.supervisor.specs.Soundness.{sound-fact}
 use Rattle.supervisor.specs.Table.{slotAt, withSlot, bytesIn, endOf, sizesOf, sound, machineIn}
 use Rattle.supervisor.specs.declared.table.Slot.{Slot}

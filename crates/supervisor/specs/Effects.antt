@@ -3,36 +3,31 @@ use mathlib.Core.Bool.{Bool, true, false, cond, not, _||_, false≢true}
 use mathlib.Core.List.{List, [], _∷_, _++_}
 use mathlib.Core.Logic.{_≢_, _⊎_, inl, inr}
 use mathlib.Core.Path.{_≡_, refl, sym, ap, _∙_, subst}
-use Prim.Native.Nat.{ℕ, zero, suc, _+_, _-_, _≤_, _<_}
-use native.Mathlib.Decide.{ℕ-discrete}
+use Prim.Native.Nat.{ℕ, zero, suc, _+_, _≤_, _<_}
 use native.Mathlib.Omega.{arith}
-use borrow.Author.Tests.{ltb-false, le-leb, eqb-true, eqb-false, eq-eqb, not-true, not-false}
-use lib.Dec.{eqb, ltb, leb}
+use borrow.Author.Tests.{ltb-false, le-leb, eqb-true, eqb-false, not-false}
+use lib.Dec.{eqb, ltb}
 use lib.ListN.{length, getD, replicate, length-append, length-replicate}
-use Rattle.cpu.specs.Machine.{Machine, machineStep, times}
+use Rattle.cpu.specs.Machine.{machineStep, times}
 use Rattle.cpu.specs.declared.machine.State.{State}
 use Rattle.pattern.specs.Image.{padded}
 use Rattle.pattern.specs.ImageLaws.{padded-length}
 use Rattle.pattern.specs.Reader.{refusalOf, readOf, valuesOf, codeOf, inputOf}
 use Rattle.pattern.specs.ReaderLaws.{read-zero, read-ranges, code-fits, input-fits}
-use Rattle.pattern.specs.RefusalLaws.{None, unless-none}
 use Rattle.pattern.specs.Refusals.{Condition, _gives_, unless}
 use Rattle.pattern.specs.ValuesLaws.{Ranges}
-use Rattle.pattern.specs.declared.reader.Answer.{Answer}
-use Rattle.pattern.specs.declared.reader.Answer.the-variants.{Accepted, Refused}
-use Rattle.pattern.specs.declared.values.Values.{Values}
+use Rattle.pattern.specs.declared.reader.Answer.the-variants.{Accepted}
 use Rattle.slices.specs.Laws.{copied-length, byte-before-copy, byte-after-copy}
 use Rattle.slices.specs.Slices.{copied}
 use Rattle.supervisor.specs.Events.{Free, inPartition}
 use Rattle.supervisor.specs.Machines.{untouched}
 use Rattle.supervisor.specs.Operations.{System, system, slotOf, refusalBy, otherLength, emptySlot, partitionFor, loadRefusal, freshState, loadedBytes, afterLoad, unloadRefusal, afterUnload, feedRefusal, fedState, afterFeed, drainRefusal, drainedState, afterDrain}
 use Rattle.supervisor.specs.Rounds.{Good, machineAt, Outside, outside-partition, slot-inside, copy-self}
-use Rattle.supervisor.specs.Soundness.{StateSound, within-test, Loaded, Unloaded, slot-fact, slot-test, loaded-slot, loaded-live, partition-inside, Apart, apart-sym, apart-cases, apart-right, clear-fact, Sound, put-same, put-other, put-size, put-sound}
-use Rattle.supervisor.specs.Table.{allBelow, slotAt, withSlot, isEmpty, bytesIn, endOf, partitionSound, zeroPartition, zeroState, allZero, slotSound, clearOf, sound, machineIn}
-use Rattle.supervisor.specs.Tests.{and-test, or-left}
+use Rattle.supervisor.specs.Soundness.{StateSound, within-test, Loaded, slot-test, loaded-slot, loaded-live, Apart, apart-cases, apart-right, clear-fact, put-same, put-other, put-size, put-sound}
+use Rattle.supervisor.specs.Table.{allBelow, withSlot, isEmpty, bytesIn, endOf, partitionSound, zeroPartition, zeroState, allZero, slotSound, sound, machineIn}
+use Rattle.supervisor.specs.Tests.{and-test}
 use Rattle.supervisor.specs.declared.table.Partition.{Partition}
 use Rattle.supervisor.specs.declared.table.Slot.{Slot}
-use Rattle.supervisor.specs.declared.table.Table.{Table}
 
 -- slot j goes on as the lone machine for n steps
 pub record Follows (j n : ℕ) (x y : System) : Type 0 where

@@ -1,13 +1,12 @@
 -- Definitions that must be believed: what refuses each operation, in the order of document 01's "Turned back, by place", and what an
 -- accepted one does (document 01, "Floor and bays").
-use mathlib.Core.Bool.{Bool, cond, not, _&&_, _||_}
+use mathlib.Core.Bool.{Bool, cond, not, _||_}
 use mathlib.Core.List.{List, [], _∷_, _++_}
 use Prim.Native.Nat.{ℕ, zero, suc, _+_}
-use lib.Dec.{eqb, ltb, leb}
-use lib.ListN.{length, getD, drop, replicate}
+use lib.Dec.{eqb, ltb}
+use lib.ListN.{length, drop, replicate}
 use Rattle.cpu.specs.Machine.{Machine, machineStep, times}
 use Rattle.cpu.specs.declared.machine.State.{State}
-use Rattle.cpu.specs.declared.state.Cpu.{Cpu}
 use Rattle.pattern.specs.Image.{padded}
 use Rattle.pattern.specs.Reader.{refusalOf, readOf, valuesOf, codeOf, inputOf}
 use Rattle.pattern.specs.Refusals.{Condition, _gives_, unless}

@@ -2,24 +2,24 @@
 use mathlib.Core.Bool.{Bool, true, false, not, false≢true, _&&_}
 use mathlib.Core.List.{List, _++_}
 use mathlib.Core.Logic.{_≢_, _⊎_, inl, inr}
-use mathlib.Core.Path.{_≡_, refl, sym, ap, _∙_, subst}
+use mathlib.Core.Path.{_≡_, refl, sym, ap, _∙_}
 use Prim.Native.Nat.{ℕ, zero, suc, _+_, _*_, _≤_, _<_}
 use native.Mathlib.Decide.{ℕ-discrete, decLt, decLe}
 use native.Mathlib.Nat.{zero-mul}
 use native.Mathlib.Omega.{arith}
 use borrow.Author.Tests.{le-leb, lt-ltb}
-use lib.Dec.{ltb, leb}
+use lib.Dec.{leb}
 use lib.ListN.{length, getD, take, drop, take-append-drop}
 use lib.Seq.{take-add, set-getD}
 use Rattle.cpu.specs.Machine.{Machine, machineStep, times}
-use Rattle.cpu.specs.MachineLaws.{MachineSound, SameSizes, times-sizes, times-sound}
-use Rattle.cpu.specs.Times.{times-add, times-zero, times-suc}
+use Rattle.cpu.specs.MachineLaws.{times-sizes, times-sound}
+use Rattle.cpu.specs.Times.{times-add, times-zero}
 use Rattle.slices.specs.Laws.{part-length, copied-length, byte-before-copy, byte-after-copy, copied-whole}
 use Rattle.slices.specs.Slices.{partOf, copied}
 use Rattle.supervisor.specs.Events.{inPartition, Free}
 use Rattle.supervisor.specs.Machines.{Fits, bytes-length, own-fits, own-bytes, written-back, untouched, machine-sound, state-sound}
 use Rattle.supervisor.specs.Operations.{System, system, slotOf, stateOf, bytesOf, turned, turn, turns, afterRun}
-use Rattle.supervisor.specs.Soundness.{Loaded, Unloaded, slot-fact, slot-test, loaded-slot, loaded-live, partition-inside, Apart, apart-cases, Sound, put-same, put-other, put-size, put-sound}
+use Rattle.supervisor.specs.Soundness.{Loaded, Unloaded, slot-fact, slot-test, loaded-slot, loaded-live, partition-inside, apart-cases, Sound, put-same, put-other, put-size, put-sound}
 use Rattle.supervisor.specs.Table.{noSlot, slotAt, withSlot, isEmpty, bytesIn, endOf, machineIn}
 use Rattle.supervisor.specs.Tests.{and-test}
 use Rattle.supervisor.specs.declared.table.Partition.{Partition}

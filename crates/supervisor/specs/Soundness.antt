@@ -3,12 +3,12 @@ use mathlib.Core.Bool.{Bool, true, false, _&&_, _||_, not, false≢true}
 use mathlib.Core.List.{List}
 use mathlib.Core.Logic.{_≢_, _⊎_, inl, inr}
 use mathlib.Core.Path.{_≡_, refl, sym, ap, _∙_}
-use Prim.Native.Nat.{ℕ, _+_, _≤_, _<_}
+use Prim.Native.Nat.{ℕ, _≤_, _<_}
 use native.Mathlib.Decide.{ℕ-discrete, decLt}
 use native.Mathlib.Omega.{arith}
-use borrow.Author.Tests.{leb-true, le-leb, ltb-true, lt-ltb, eqb-true, eq-eqb, ne-eqb, eqb-false}
+use borrow.Author.Tests.{leb-true, le-leb, ltb-true, lt-ltb, eqb-true, eq-eqb, ne-eqb}
 use lib.Dec.{eqb, ltb, leb}
-use lib.ListN.{getD, set, length, length-set, List·getD-eq-default}
+use lib.ListN.{getD, length, length-set, List·getD-eq-default}
 use lib.Seq.{getD-set-same, getD-set-other}
 use Rattle.cpu.specs.State.{storedPsu}
 use Rattle.cpu.specs.declared.machine.State.{State}
@@ -217,10 +217,6 @@ apart-sym p q (inr u) = inl u
 pub apart-cases : (p q : Partition) → Apart p q → (endOf p ≤ q .base) ⊎ (endOf q ≤ p .base)
 unfolding Apart
 apart-cases p q h = h
-
-pub apart-left : (p q : Partition) → endOf p ≤ q .base → Apart p q
-unfolding Apart
-apart-left p q h = inl h
 
 pub apart-right : (p q : Partition) → endOf q ≤ p .base → Apart p q
 unfolding Apart

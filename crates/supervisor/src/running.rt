@@ -1,7 +1,7 @@
 // Running: rounds in which each slot, in rising number, takes its quantum in steps (document 01's passes).
 ghost use mathlib.Core.Bool.{true};
 ghost use mathlib.Core.Path.{_≡_};
-ghost use Prim.Native.Nat.{ℕ, _≤_};
+ghost use Prim.Native.Nat.{_≤_};
 ghost use lib.ListN.{length};
 ghost use Rattle.slices.specs.Slices.{copied};
 ghost use Rattle.supervisor.specs.Events as events;

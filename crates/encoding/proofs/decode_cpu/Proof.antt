@@ -1,31 +1,23 @@
 use Rattle.encoding.specs.Encoding.{cpuAt}
-use borrow.Author.Tests.{eq-eqb, ne-eqb, lt-ltb, le-ltb, le-leb, lt-leb}
-use mathlib.Core.Path.{_∙_, sym, refl}
 use borrow.Author.Needs.{needs}
 use Rattle.encoding.proofs.decode_cpu.Statement.{statement}
 use Rattle.encoding.proofs.decode_cpu.Tie as tie
 
--- src/encoding.rt:63:9
 number-requires : tie.Need-number-requires
 number-requires c κs = search needs
 
--- src/encoding.rt:64:9
 registers-requires : tie.Need-registers-requires
 registers-requires c κs = search needs
 
--- src/encoding.rt:65:9
 byte-requires : tie.Need-byte-requires
 byte-requires c κs = search needs
 
--- src/encoding.rt:66:9
 byte-requires-2 : tie.Need-byte-requires-2
 byte-requires-2 c κs = search needs
 
--- src/encoding.rt:67:9
 returns-requires : tie.Need-returns-requires
 returns-requires c κs = search needs
 
--- src/encoding.rt:60:1
 returns : tie.Need-returns
 unfolding cpuAt
 returns c =

@@ -1,4 +1,4 @@
-use mathlib.Core.Path.{_≡_, ap, _∙_, refl}
+use mathlib.Core.Path.{_≡_, ap, _∙_}
 use Prim.Native.Nat.{ℕ}
 use lib.ListN.{length, length-replicate}
 use Rattle.encoding.specs.Encoding.{stateOf}
@@ -7,19 +7,13 @@ use Rattle.encoding.proofs.Storing.{stored-bytes}
 use borrow.Author.Needs.{needs}
 use Rattle.encoding.proofs.encode.Statement.{statement}
 use Rattle.encoding.proofs.encode.Tie as tie
-use Rattle.encoding.proofs.encode.Reads as reads
-use Rattle.encoding.proofs.encode.Lts as lts
-use Rattle.encoding.proofs.put_state.Reads as put-state-reads
 
--- src/lib.rt:153:15
 slice-aggregate-put-state : tie.Need-slice-aggregate-put-state
 slice-aggregate-put-state c = search needs
 
--- src/lib.rt:153:5
 put-state-requires : tie.Need-put-state-requires
 put-state-requires c κs = search needs
 
--- src/lib.rt:148:1
 returns : tie.Need-returns
 returns c = let s = c .before .before .before .args .state in let r : length (s .cpu .registers) ≡ 7 = search needs in let q : length (s .cpu .returns) ≡ 8 = search needs in let e = c .before .put-state .ensures ∙ stored-bytes _ s (length-replicate {A = ℕ} 34 0) r q in (e, ap stateOf e ∙ decoded s r q)
 

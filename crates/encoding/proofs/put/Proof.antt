@@ -4,19 +4,15 @@ use borrow.Author.Needs.{needs}
 use Rattle.encoding.proofs.put.Statement.{statement}
 use Rattle.encoding.proofs.put.Tie as tie
 
--- src/encoding.rt:99:9
 slice-write-bytes : tie.Need-slice-write-bytes
 slice-write-bytes c = search needs
 
--- src/encoding.rt:95:1
 same-length : tie.Need-same-length
 same-length c = search needs
 
--- src/encoding.rt:95:1
 returns : tie.Need-returns
 returns c = search needs
 
--- src/encoding.rt:95:1
 returns-2 : tie.Need-returns-2
 returns-2 c = sym (set-out (c .before .args .bytes .now) _ _ (c .if1 .left))
 

@@ -1,35 +1,26 @@
 use Rattle.encoding.specs.Stores.{cpuStored}
-use borrow.Author.Tests.{eq-eqb, ne-eqb, lt-ltb, le-ltb, le-leb, lt-leb}
-use mathlib.Core.Path.{_∙_, sym, refl}
 use borrow.Author.Needs.{needs}
 use Rattle.encoding.proofs.put_cpu.Statement.{statement}
 use Rattle.encoding.proofs.put_cpu.Tie as tie
 
--- src/encoding.rt:141:5
 put-number-requires : tie.Need-put-number-requires
 put-number-requires c κs = search needs
 
--- src/encoding.rt:142:5
 put-registers-requires : tie.Need-put-registers-requires
 put-registers-requires c κs = search needs
 
--- src/encoding.rt:143:5
 put-requires : tie.Need-put-requires
 put-requires c κs = search needs
 
--- src/encoding.rt:144:5
 put-requires-2 : tie.Need-put-requires-2
 put-requires-2 c κs = search needs
 
--- src/encoding.rt:145:5
 put-returns-requires : tie.Need-put-returns-requires
 put-returns-requires c κs = search needs
 
--- src/encoding.rt:136:1
 same-length : tie.Need-same-length
 same-length c = search needs
 
--- src/encoding.rt:136:1
 returns : tie.Need-returns
 unfolding cpuStored
 returns c =

@@ -1,71 +1,53 @@
 use Rattle.encoding.specs.Stores.{registersStored}
-use borrow.Author.Tests.{eq-eqb, ne-eqb, lt-ltb, le-ltb, le-leb, lt-leb}
-use mathlib.Core.Path.{_∙_, sym, refl}
 use borrow.Author.Needs.{needs}
 use Rattle.encoding.proofs.put_registers.Statement.{statement}
 use Rattle.encoding.proofs.put_registers.Tie as tie
 
--- src/encoding.rt:114:19
 array-read-put : tie.Need-array-read-put
 array-read-put c = search needs
 
--- src/encoding.rt:114:5
 put-requires : tie.Need-put-requires
 put-requires c κs = search needs
 
--- src/encoding.rt:115:19
 array-read-put-2 : tie.Need-array-read-put-2
 array-read-put-2 c = search needs
 
--- src/encoding.rt:115:5
 put-requires-2 : tie.Need-put-requires-2
 put-requires-2 c κs = search needs
 
--- src/encoding.rt:116:19
 array-read-put-3 : tie.Need-array-read-put-3
 array-read-put-3 c = search needs
 
--- src/encoding.rt:116:5
 put-requires-3 : tie.Need-put-requires-3
 put-requires-3 c κs = search needs
 
--- src/encoding.rt:117:19
 array-read-put-4 : tie.Need-array-read-put-4
 array-read-put-4 c = search needs
 
--- src/encoding.rt:117:5
 put-requires-4 : tie.Need-put-requires-4
 put-requires-4 c κs = search needs
 
--- src/encoding.rt:118:19
 array-read-put-5 : tie.Need-array-read-put-5
 array-read-put-5 c = search needs
 
--- src/encoding.rt:118:5
 put-requires-5 : tie.Need-put-requires-5
 put-requires-5 c κs = search needs
 
--- src/encoding.rt:119:19
 array-read-put-6 : tie.Need-array-read-put-6
 array-read-put-6 c = search needs
 
--- src/encoding.rt:119:5
 put-requires-6 : tie.Need-put-requires-6
 put-requires-6 c κs = search needs
 
--- src/encoding.rt:120:19
 array-read-put-7 : tie.Need-array-read-put-7
 array-read-put-7 c = search needs
 
--- src/encoding.rt:120:5
 put-requires-7 : tie.Need-put-requires-7
 put-requires-7 c κs = search needs
 
--- src/encoding.rt:111:1
 same-length : tie.Need-same-length
 same-length c = search needs
 
--- src/encoding.rt:111:1
 returns : tie.Need-returns
 unfolding registersStored
 returns c =

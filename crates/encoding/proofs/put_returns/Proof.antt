@@ -1,79 +1,59 @@
 use Rattle.encoding.specs.Stores.{returnsStored}
-use borrow.Author.Tests.{eq-eqb, ne-eqb, lt-ltb, le-ltb, le-leb, lt-leb}
-use mathlib.Core.Path.{_∙_, sym, refl}
 use borrow.Author.Needs.{needs}
 use Rattle.encoding.proofs.put_returns.Statement.{statement}
 use Rattle.encoding.proofs.put_returns.Tie as tie
 
--- src/encoding.rt:126:27
 array-read-put-number : tie.Need-array-read-put-number
 array-read-put-number c = search needs
 
--- src/encoding.rt:126:5
 put-number-requires : tie.Need-put-number-requires
 put-number-requires c κs = search needs
 
--- src/encoding.rt:127:27
 array-read-put-number-2 : tie.Need-array-read-put-number-2
 array-read-put-number-2 c = search needs
 
--- src/encoding.rt:127:5
 put-number-requires-2 : tie.Need-put-number-requires-2
 put-number-requires-2 c κs = search needs
 
--- src/encoding.rt:128:27
 array-read-put-number-3 : tie.Need-array-read-put-number-3
 array-read-put-number-3 c = search needs
 
--- src/encoding.rt:128:5
 put-number-requires-3 : tie.Need-put-number-requires-3
 put-number-requires-3 c κs = search needs
 
--- src/encoding.rt:129:27
 array-read-put-number-4 : tie.Need-array-read-put-number-4
 array-read-put-number-4 c = search needs
 
--- src/encoding.rt:129:5
 put-number-requires-4 : tie.Need-put-number-requires-4
 put-number-requires-4 c κs = search needs
 
--- src/encoding.rt:130:27
 array-read-put-number-5 : tie.Need-array-read-put-number-5
 array-read-put-number-5 c = search needs
 
--- src/encoding.rt:130:5
 put-number-requires-5 : tie.Need-put-number-requires-5
 put-number-requires-5 c κs = search needs
 
--- src/encoding.rt:131:27
 array-read-put-number-6 : tie.Need-array-read-put-number-6
 array-read-put-number-6 c = search needs
 
--- src/encoding.rt:131:5
 put-number-requires-6 : tie.Need-put-number-requires-6
 put-number-requires-6 c κs = search needs
 
--- src/encoding.rt:132:27
 array-read-put-number-7 : tie.Need-array-read-put-number-7
 array-read-put-number-7 c = search needs
 
--- src/encoding.rt:132:5
 put-number-requires-7 : tie.Need-put-number-requires-7
 put-number-requires-7 c κs = search needs
 
--- src/encoding.rt:133:27
 array-read-put-number-8 : tie.Need-array-read-put-number-8
 array-read-put-number-8 c = search needs
 
--- src/encoding.rt:133:5
 put-number-requires-8 : tie.Need-put-number-requires-8
 put-number-requires-8 c κs = search needs
 
--- src/encoding.rt:123:1
 same-length : tie.Need-same-length
 same-length c = search needs
 
--- src/encoding.rt:123:1
 returns : tie.Need-returns
 unfolding returnsStored
 returns c =

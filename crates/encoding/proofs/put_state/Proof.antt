@@ -1,35 +1,26 @@
 use Rattle.encoding.specs.Stores.{stateStored}
-use borrow.Author.Tests.{eq-eqb, ne-eqb, lt-ltb, le-ltb, le-leb, lt-leb}
-use mathlib.Core.Path.{_∙_, sym, refl}
 use borrow.Author.Needs.{needs}
 use Rattle.encoding.proofs.put_state.Statement.{statement}
 use Rattle.encoding.proofs.put_state.Tie as tie
 
--- src/encoding.rt:152:5
 put-cpu-requires : tie.Need-put-cpu-requires
 put-cpu-requires c κs = search needs
 
--- src/encoding.rt:153:5
 put-requires : tie.Need-put-requires
 put-requires c κs = search needs
 
--- src/encoding.rt:154:5
 put-number-requires : tie.Need-put-number-requires
 put-number-requires c κs = search needs
 
--- src/encoding.rt:155:5
 put-number-requires-2 : tie.Need-put-number-requires-2
 put-number-requires-2 c κs = search needs
 
--- src/encoding.rt:156:5
 put-number-requires-3 : tie.Need-put-number-requires-3
 put-number-requires-3 c κs = search needs
 
--- src/encoding.rt:148:1
 same-length : tie.Need-same-length
 same-length c = search needs
 
--- src/encoding.rt:148:1
 returns : tie.Need-returns
 unfolding stateStored
 returns c =

@@ -1,39 +1,29 @@
 use Rattle.encoding.specs.Encoding.{registersAt}
-use borrow.Author.Tests.{eq-eqb, ne-eqb, lt-ltb, le-ltb, le-leb, lt-leb}
-use mathlib.Core.Path.{_∙_, sym, refl}
 use borrow.Author.Needs.{needs}
 use Rattle.encoding.proofs.registers.Statement.{statement}
 use Rattle.encoding.proofs.registers.Tie as tie
 
--- src/encoding.rt:35:9
 byte-requires : tie.Need-byte-requires
 byte-requires c κs = search needs
 
--- src/encoding.rt:36:9
 byte-requires-2 : tie.Need-byte-requires-2
 byte-requires-2 c κs = search needs
 
--- src/encoding.rt:37:9
 byte-requires-3 : tie.Need-byte-requires-3
 byte-requires-3 c κs = search needs
 
--- src/encoding.rt:38:9
 byte-requires-4 : tie.Need-byte-requires-4
 byte-requires-4 c κs = search needs
 
--- src/encoding.rt:39:9
 byte-requires-5 : tie.Need-byte-requires-5
 byte-requires-5 c κs = search needs
 
--- src/encoding.rt:40:9
 byte-requires-6 : tie.Need-byte-requires-6
 byte-requires-6 c κs = search needs
 
--- src/encoding.rt:41:9
 byte-requires-7 : tie.Need-byte-requires-7
 byte-requires-7 c κs = search needs
 
--- src/encoding.rt:31:1
 returns : tie.Need-returns
 unfolding registersAt
 returns c =

@@ -1,43 +1,32 @@
 use Rattle.encoding.specs.Encoding.{returnsAt}
-use borrow.Author.Tests.{eq-eqb, ne-eqb, lt-ltb, le-ltb, le-leb, lt-leb}
-use mathlib.Core.Path.{_∙_, sym, refl}
 use borrow.Author.Needs.{needs}
 use Rattle.encoding.proofs.returns.Statement.{statement}
 use Rattle.encoding.proofs.returns.Tie as tie
 
--- src/encoding.rt:49:9
 number-requires : tie.Need-number-requires
 number-requires c κs = search needs
 
--- src/encoding.rt:50:9
 number-requires-2 : tie.Need-number-requires-2
 number-requires-2 c κs = search needs
 
--- src/encoding.rt:51:9
 number-requires-3 : tie.Need-number-requires-3
 number-requires-3 c κs = search needs
 
--- src/encoding.rt:52:9
 number-requires-4 : tie.Need-number-requires-4
 number-requires-4 c κs = search needs
 
--- src/encoding.rt:53:9
 number-requires-5 : tie.Need-number-requires-5
 number-requires-5 c κs = search needs
 
--- src/encoding.rt:54:9
 number-requires-6 : tie.Need-number-requires-6
 number-requires-6 c κs = search needs
 
--- src/encoding.rt:55:9
 number-requires-7 : tie.Need-number-requires-7
 number-requires-7 c κs = search needs
 
--- src/encoding.rt:56:9
 number-requires-8 : tie.Need-number-requires-8
 number-requires-8 c κs = search needs
 
--- src/encoding.rt:45:1
 returns : tie.Need-returns
 unfolding returnsAt
 returns c =

@@ -3,34 +3,24 @@ use Rattle.listing.proofs.Runs.{refused-room, refused-memory, listed-te
 use borrow.Author.Needs.{needs}
 use Rattle.listing.proofs.listing.Statement.{statement}
 use Rattle.listing.proofs.listing.Tie as tie
-use Rattle.listing.proofs.listing.Reads as reads
-use Rattle.listing.proofs.listing.Lts as lts
-use Rattle.listing.proofs.put_text.Reads as put-text-reads
 
--- src/lib.rt:76:9
 returns : tie.Need-returns
 returns c = (refused-room _ _ _ (c .if1 .taken), omega arith)
 
--- src/lib.rt:82:9
 returns-2 : tie.Need-returns-2
 returns-2 c = (refused-memory _ _ _ (c .before .if1 .left) (c .if2 .taken), omega arith)
 
--- src/lib.rt:87:9
 put-text-requires : tie.Need-put-text-requires
 put-text-requires c κs = search needs
 
--- src/lib.rt:72:1
 same-length : tie.Need-same-length
 same-length c = search needs
 
--- src/lib.rt:72:1
 same-length-2 : tie.Need-same-length-2
 same-length-2 c = search needs
 
--- src/lib.rt:72:1
 returns-3 : tie.Need-returns-3
 returns-3 c = let put = c .before .before .before .before .put-text .ensures in (listed-text _ _ _ _ _ _ (c .before .before .before .before .before .before .before .before .if1 .left) (c .before .before .before .before .before .before .before .if2 .left) (put .0, (put .1 .0, put .1 .1 .0)), put .1 .1 .1)
 
 pub listing-spec : {M : Type 1} → statement M
-listing-spec =
-    tie.close (tie.spec returns returns-2 put-text-requires same-length same-length-2 returns-3)
+listing-spec = tie.close (tie.spec returns returns-2 put-text-requires same-length same-length-2 returns-3)

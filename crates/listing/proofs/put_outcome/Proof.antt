@@ -7,42 +7,28 @@ use Rattle.listing.proofs.Runs.{status-digit, output-drained, output-fi
 use borrow.Author.Needs.{needs}
 use Rattle.listing.proofs.put_outcome.Statement.{statement}
 use Rattle.listing.proofs.put_outcome.Tie as tie
-use Rattle.listing.proofs.put_outcome.Reads as reads
-use Rattle.listing.proofs.put_outcome.Lts as lts
-use Rattle.listing.proofs.text.put_lines.Reads as put-lines-reads
-use Rattle.slices.proofs.front.Reads as front-reads
-use Rattle.supervisor.proofs.drain.Reads as drain-reads
-use Rattle.supervisor.proofs.report.Reads as report-reads
 
--- src/lib.rt:42:9
 report-requires : tie.Need-report-requires
 report-requires c κs = search needs
 
--- src/lib.rt:44:55
 slice-aggregate-drain : tie.Need-slice-aggregate-drain
 slice-aggregate-drain c = search needs
 
--- src/lib.rt:44:9
 drain-requires : tie.Need-drain-requires
 drain-requires c κs = search needs
 
--- src/lib.rt:45:37
 slice-aggregate-front : tie.Need-slice-aggregate-front
 slice-aggregate-front c = search needs
 
--- src/lib.rt:45:23
 front-requires : tie.Need-front-requires
 front-requires c κs = search needs
 
--- src/lib.rt:45:5
 put-lines-requires : tie.Need-put-lines-requires
 put-lines-requires c κs = let x : System = system (c .before .before .before .before .before .before .before .before .before .args .table) (c .before .before .before .before .before .before .before .before .before .args .memory .now) in let drained : c .before .front .result .now ≡ writtenBytes x 0 = output-drained x (c .before .before .before .before .before .before .before .before .before .pre .0) (c .before .before .before .before .before .before .before .before .before .pre .1 .0) _ _ _ _ (length-replicate {A = ℕ} 4096 0) (c .before .before .before .before .drain .ensures .1 .0) (c .before .before .before .before .drain .ensures .1 .1) (c .before .front .ensures) in (status-digit x (c .before .before .before .before .before .before .before .before .before .pre .0) (c .before .before .before .before .before .before .before .before .before .pre .1 .0) _ (c .before .before .before .before .before .before .report .ensures), omega (arith, output-fits x (c .before .before .before .before .before .before .before .before .before .pre .0) (c .before .before .before .before .before .before .before .before .before .pre .1 .0) _ drained, c .before .before .before .before .before .before .before .before .before .pre .1 .1))
 
--- src/lib.rt:35:1
 same-length : tie.Need-same-length
 same-length c = search needs
 
--- src/lib.rt:35:1
 returns : tie.Need-returns
 returns c = let x : System = system (c .before .before .before .before .before .before .before .before .before .before .before .before .args .table) (c .before .before .before .before .before .before .before .before .before .before .before .before .args .memory .now) in let drained : c .before .before .before .before .front .result .now ≡ writtenBytes x 0 = output-drained x (c .before .before .before .before .before .before .before .before .before .before .before .before .pre .0) (c .before .before .before .before .before .before .before .before .before .before .before .before .pre .1 .0) _ _ _ _ (length-replicate {A = ℕ} 4096 0) (c .before .before .before .before .before .before .before .drain .ensures .1 .0) (c .before .before .before .before .before .before .before .drain .ensures .1 .1) (c .before .before .before .before .front .ensures) in let put = c .before .before .put-lines .ensures in let lines = lines-after x (c .before .before .before .before .before .before .before .before .before .before .before .before .pre .0) (c .before .before .before .before .before .before .before .before .before .before .before .before .pre .1 .0) _ _ _ _ _ (c .before .before .before .before .before .before .before .before .before .report .ensures) drained (put .0, put .1 .0) in (lines .0, (lines .1, omega (arith, put .1 .1, output-fits x (c .before .before .before .before .before .before .before .before .before .before .before .before .pre .0) (c .before .before .before .before .before .before .before .before .before .before .before .before .pre .1 .0) _ drained)))
 

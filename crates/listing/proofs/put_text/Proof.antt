@@ -3,67 +3,46 @@ use Rattle.listing.proofs.Runs.{long-text, refused-load, end-good, end-
 use borrow.Author.Needs.{needs}
 use Rattle.listing.proofs.put_text.Statement.{statement}
 use Rattle.listing.proofs.put_text.Tie as tie
-use Rattle.listing.proofs.put_text.Reads as reads
-use Rattle.listing.proofs.put_text.Lts as lts
-use Rattle.listing.proofs.put_outcome.Reads as put-outcome-reads
-use Rattle.listing.proofs.rounds.rounds.Reads as rounds-reads
-use Rattle.listing.proofs.text.put_refused.Reads as put-refused-reads
-use Rattle.supervisor.proofs.load.Reads as load-reads
-use Rattle.supervisor.proofs.table.Table.new.Reads as new-reads
 
--- src/lib.rt:57:9
 put-refused-requires : tie.Need-put-refused-requires
 put-refused-requires c κs = search needs
 
--- src/lib.rt:57:9
 same-length : tie.Need-same-length
 same-length c = search needs
 
--- src/lib.rt:57:9
 returns : tie.Need-returns
 returns c = let put = c .before .before .put-refused .ensures in let text = long-text (c .before .before .before .before .before .before .before .before .args .file .now) (c .before .before .before .before .before .before .before .before .args .memory .now) _ _ _ (c .before .before .before .before .if1 .taken) (put .0, put .1 .0) in (text .0, (text .1 .0, (text .1 .1, omega (arith, put .1 .1))))
 
--- src/lib.rt:59:9
 new-requires : tie.Need-new-requires
 new-requires c κs = search needs
 
--- src/lib.rt:61:9
 load-requires : tie.Need-load-requires
 load-requires c κs = search needs
 
--- src/lib.rt:63:9
 put-refused-requires-2 : tie.Need-put-refused-requires-2
 put-refused-requires-2 c κs = search needs
 
--- src/lib.rt:63:9
 same-length-2 : tie.Need-same-length-2
 same-length-2 c = search needs
 
--- src/lib.rt:63:9
 same-length-3 : tie.Need-same-length-3
 same-length-3 c = search needs
 
--- src/lib.rt:63:9
 returns-2 : tie.Need-returns-2
 returns-2 c = let put = c .before .before .put-refused2 .ensures in let text = refused-load _ _ (c .before .before .before .before .before .before .before .before .before .before .before .before .if1 .left) _ _ _ _ (c .before .before .before .before .before .before .before .before .before .before .before .new .ensures .1) (c .before .before .before .before .before .before .before .before .load .ensures) _ _ _ (c .before .before .before .before .if2 .taken) (put .0, put .1 .0) in (text .0, (text .1 .0, (text .1 .1, omega (arith, put .1 .1))))
 
--- src/lib.rt:66:9
 rounds-requires : tie.Need-rounds-requires
 rounds-requires c κs = search needs
 
--- src/lib.rt:67:5
 put-outcome-requires : tie.Need-put-outcome-requires
 put-outcome-requires c κs = (end-good _ _ (c .before .before .before .before .before .before .before .before .before .before .before .before .before .before .before .if1 .left) _ _ _ _ (c .before .before .before .before .before .before .before .before .before .before .before .before .before .before .new .ensures .1) (c .before .before .before .before .before .before .before .before .before .before .before .load .ensures) (c .before .before .before .before .before .before .before .if2 .left) (c .before .before .before .before .before .before .before .before .before .before .before .before .before .before .before .before .before .before .before .pre .0) _ _ (c .before .before .before .before .rounds .ensures), (end-loaded _ _ (c .before .before .before .before .before .before .before .before .before .before .before .before .before .before .before .if1 .left) _ _ _ _ (c .before .before .before .before .before .before .before .before .before .before .before .before .before .before .new .ensures .1) (c .before .before .before .before .before .before .before .before .before .before .before .load .ensures) (c .before .before .before .before .before .before .before .if2 .left) (c .before .before .before .before .before .before .before .before .before .before .before .before .before .before .before .before .before .before .before .pre .0) _ _ (c .before .before .before .before .rounds .ensures), c .before .before .before .before .before .before .before .before .before .before .before .before .before .before .before .before .before .before .before .pre .1))
 
--- src/lib.rt:49:1
 same-length-4 : tie.Need-same-length-4
 same-length-4 c = search needs
 
--- src/lib.rt:49:1
 same-length-5 : tie.Need-same-length-5
 same-length-5 c = search needs
 
--- src/lib.rt:49:1
 returns-3 : tie.Need-returns-3
 returns-3 c = let put = c .before .before .put-outcome .ensures in let text = finished-text _ _ (c .before .before .before .before .before .before .before .before .before .before .before .before .before .before .before .before .before .before .if1 .left) _ _ _ _ (c .before .before .before .before .before .before .before .before .before .before .before .before .before .before .before .before .before .new .ensures .1) (c .before .before .before .before .before .before .before .before .before .before .before .before .before .before .load .ensures) (c .before .before .before .before .before .before .before .before .before .before .if2 .left) (c .before .before .before .before .before .before .before .before .before .before .before .before .before .before .before .before .before .before .before .before .before .before .pre .0) _ _ (c .before .before .before .before .before .before .before .rounds .ensures) _ _ _ (put .0, put .1 .0) in (text .0, (text .1 .0, (text .1 .1, omega (arith, put .1 .1))))
 

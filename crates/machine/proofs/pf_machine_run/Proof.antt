@@ -8,47 +8,32 @@ use Rattle.slices.specs.Laws.{copied-all}
 use borrow.Author.Needs.{needs}
 use Rattle.machine.proofs.pf_machine_run.Statement.{statement}
 use Rattle.machine.proofs.pf_machine_run.Tie as tie
-use Rattle.machine.proofs.pf_machine_run.Reads as reads
-use Rattle.machine.proofs.pf_machine_run.Lts as lts
-use Rattle.encoding.proofs.decode.Reads as decode-reads
-use Rattle.encoding.proofs.encode.Reads as encode-reads
-use Rattle.machine.proofs.rounds.run.Reads as run-reads
-use Rattle.slices.proofs.copy.Reads as copy-reads
 
--- src/lib.rt:25:9
 returns : tie.Need-returns
 unfolding leftBy machineRunOf if_then_else_
 returns c = rw (ne-eqb _ _ (c .if1 .taken))
 
--- src/lib.rt:32:9
 decode-requires : tie.Need-decode-requires
 decode-requires c κs = search needs
 
--- src/lib.rt:33:9
 run-requires : tie.Need-run-requires
 run-requires c κs = search needs
 
--- src/lib.rt:34:17
 encode-requires : tie.Need-encode-requires
 encode-requires c κs = search needs
 
--- src/lib.rt:35:28
 slice-aggregate-copy : tie.Need-slice-aggregate-copy
 slice-aggregate-copy c = search needs
 
--- src/lib.rt:35:5
 copy-requires : tie.Need-copy-requires
 copy-requires c κs = search needs
 
--- src/lib.rt:12:1
 same-length : tie.Need-same-length
 same-length c = search needs
 
--- src/lib.rt:12:1
 same-length-2 : tie.Need-same-length-2
 same-length-2 c = search needs
 
--- src/lib.rt:12:1
 returns-2 : tie.Need-returns-2
 unfolding leftBy machineRunOf if_then_else_
 returns-2 c = let n : length (c .before .before .before .before .before .encode .result) ≡ 34 = search needs in let e : stateOf (c .before .before .copy .last .0) ≡ c .before .before .before .before .before .before .before .before .run .result = ap stateOf (c .before .before .copy .ensures ∙ copied-all _ _ (n ∙ sym (c .before .before .before .before .before .before .before .before .before .before .before .before .if1 .left))) ∙ c .before .before .before .before .before .encode .ensures .1 in rw (eq-eqb _ _ (c .before .before .before .before .before .before .before .before .before .before .before .before .if1 .left), e, c .before .before .before .before .before .before .before .before .run .ensures .0, c .before .before .before .before .before .before .before .before .run .ensures .1, c .before .before .before .before .before .before .before .before .before .before .decode .ensures)

@@ -4,75 +4,57 @@ use borrow.Author.Needs.{needs}
 use Rattle.scripts.proofs.carried_out.Statement.{statement}
 use Rattle.scripts.proofs.carried_out.Tie as tie
 
--- src/main.rt:215:9
 kind-requires : tie.Need-kind-requires
 kind-requires c κs = search needs
 
--- src/main.rt:217:9
 begun-requires : tie.Need-begun-requires
 begun-requires c κs = search needs
 
--- src/main.rt:217:9
 same-length : tie.Need-same-length
 same-length c = search needs
 
--- src/main.rt:217:9
 returns : tie.Need-returns
 returns c = search needs
 
--- src/main.rt:220:9
 compared-requires : tie.Need-compared-requires
 compared-requires c κs = search needs
 
--- src/main.rt:220:9
 same-length-2 : tie.Need-same-length-2
 same-length-2 c = search needs
 
--- src/main.rt:220:9
 returns-2 : tie.Need-returns-2
 returns-2 c = search needs
 
--- src/main.rt:223:27
 arranged-requires : tie.Need-arranged-requires
 arranged-requires c κs = search needs
 
--- src/main.rt:223:9
 unanswered-requires : tie.Need-unanswered-requires
 unanswered-requires c κs = search needs
 
--- src/main.rt:223:9
 returns-3 : tie.Need-returns-3
 returns-3 c = search needs
 
--- src/main.rt:225:16
 cast-lent : tie.Need-cast-lent
 cast-lent c = search needs
 
--- src/main.rt:227:9
 unanswered-requires-2 : tie.Need-unanswered-requires-2
 unanswered-requires-2 c κs = search needs
 
--- src/main.rt:227:9
 returns-4 : tie.Need-returns-4
 returns-4 c = search needs
 
--- src/main.rt:229:19
 slice-relend-prefix-called : tie.Need-slice-relend-prefix-called
 slice-relend-prefix-called c = search needs
 
--- src/main.rt:229:19
 slice-aggregate-called : tie.Need-slice-aggregate-called
 slice-aggregate-called c = sym (length-take-le _ (c .before .before .before .before .before .before .before .before .before .args .memory .now) (c .before .if4 .left))
 
--- src/main.rt:229:5
 called-requires : tie.Need-called-requires
 called-requires c κs = search needs
 
--- src/main.rt:214:1
 same-length-3 : tie.Need-same-length-3
 same-length-3 c = search needs
 
--- src/main.rt:214:1
 returns-5 : tie.Need-returns-5
 returns-5 c = search needs
 

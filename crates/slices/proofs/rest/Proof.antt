@@ -30,12 +30,4 @@ returns-2 c = let a = c .before .before .args in
     sym (drop-of-length-le (now (a .s)) {i = a .at} (search needs))
 
 pub rest-spec : {M : Type 1} → statement M
-rest-spec =
-    tie.close
-    (tie.spec
-    sub-result
-    part-result-start
-    part-result-end
-    slice-aggregate-result
-    returns
-    returns-2)
+rest-spec = tie.close (tie.spec sub-result part-result-start part-result-end slice-aggregate-result returns returns-2)

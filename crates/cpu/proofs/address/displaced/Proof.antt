@@ -1,35 +1,28 @@
 use Prim.Native.Nat.{_%_, _+_}
 use Rattle.cpu.proofs.Signed16.{added-back, added-fits, displaced-law, plus-fits}
-use borrow.Author.Needs.{needs}
 use native.Mathlib.Omega.{arith}
+use borrow.Author.Needs.{needs}
 use Rattle.cpu.proofs.address.displaced.Statement.{statement}
 use Rattle.cpu.proofs.address.displaced.Tie as tie
 
--- src/address.rt:85:14
 add-o : tie.Need-add-o
 add-o c = search needs
 
--- src/address.rt:85:13
 cast-o : tie.Need-cast-o
 cast-o c = search needs
 
--- src/address.rt:85:13
 add-o-2 : tie.Need-add-o-2
 add-o-2 c = added-fits (c .before .args .a .0 % 8192 + 8192) (c .before .args .d) (c .before .pre) (omega arith) (omega arith)
 
--- src/address.rt:86:13
 mul-t5 : tie.Need-mul-t5
 mul-t5 c = search needs
 
--- src/address.rt:86:34
 cast-t7 : tie.Need-cast-t7
 cast-t7 c = rw (added-back (c .before .before .args .a .0 % 8192 + 8192) (c .before .before .args .d) (c .before .before .pre) (omega arith) (omega arith)) (tt, plus-fits (c .before .before .args .a .0 % 8192 + 8192) (c .before .before .args .d) (c .before .before .pre) (omega arith))
 
--- src/address.rt:86:13
 add-t9 : tie.Need-add-t9
 add-t9 c = search needs
 
--- src/address.rt:81:1
 returns : tie.Need-returns
 returns c = rw (added-back (c .before .before .args .a .0 % 8192 + 8192) (c .before .before .args .d) (c .before .before .pre) (omega arith) (omega arith)) (displaced-law (c .before .before .args .a) (c .before .before .args .d) (c .before .before .pre))
 

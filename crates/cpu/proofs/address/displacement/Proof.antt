@@ -2,30 +2,25 @@ use Prim.Native.Nat.{_%_}
 use Rattle.cpu.proofs.Signed16.{minus-back, minus-fits, small}
 use Rattle.cpu.specs.Address.{displacementOf}
 use Rattle.cpu.specs.Choice.{if_then_else_}
-use borrow.Author.Needs.{needs}
 use borrow.Author.Tests.{le-ltb, lt-ltb}
 use native.Mathlib.Omega.{arith}
+use borrow.Author.Needs.{needs}
 use Rattle.cpu.proofs.address.displacement.Statement.{statement}
 use Rattle.cpu.proofs.address.displacement.Tie as tie
 
--- src/address.rt:77:17
 cast-result : tie.Need-cast-result
 cast-result c = search needs
 
--- src/address.rt:77:35
 cast-result-2 : tie.Need-cast-result-2
 cast-result-2 c = search needs
 
--- src/address.rt:77:35
 sub-result : tie.Need-sub-result
 sub-result c = minus-fits (c .before .args .b % 128) 127 (omega arith) (omega arith)
 
--- src/address.rt:73:1
 returns : tie.Need-returns
 unfolding displacementOf if_then_else_
 returns c = rw (lt-ltb _ _ (c .if1 .taken)) (small (c .before .args .b % 128) (omega arith))
 
--- src/address.rt:73:1
 returns-2 : tie.Need-returns-2
 unfolding displacementOf if_then_else_
 returns-2 c = rw (le-ltb _ _ (c .if1 .left)) (minus-back (c .before .args .b % 128) 127 (omega arith) (omega arith))

@@ -1,24 +1,20 @@
 use Rattle.cpu.specs.Address.{fetchOf}
 use Rattle.cpu.specs.Choice.{if_then_else_}
-use borrow.Author.Needs.{needs}
 use borrow.Author.Tests.{le-ltb, lt-ltb}
+use borrow.Author.Needs.{needs}
 use Rattle.cpu.proofs.address.fetch.Statement.{statement}
 use Rattle.cpu.proofs.address.fetch.Tie as tie
 
--- src/address.rt:41:13
 cast-i : tie.Need-cast-i
 cast-i c = search needs
 
--- src/address.rt:43:23
 shared-slice-read-t8 : tie.Need-shared-slice-read-t8
 shared-slice-read-t8 c = search needs
 
--- src/address.rt:38:1
 returns : tie.Need-returns
 unfolding fetchOf if_then_else_
 returns c = rw (lt-ltb _ _ (c .before .if1 .taken))
 
--- src/address.rt:38:1
 returns-2 : tie.Need-returns-2
 unfolding fetchOf if_then_else_
 returns-2 c = rw (le-ltb _ _ (c .if1 .left))

@@ -1,44 +1,35 @@
 use Rattle.cpu.specs.Address.{pointerOf, withByte}
-use borrow.Author.Needs.{needs}
 use mathlib.Core.Path.{_∙_, sym}
+use borrow.Author.Needs.{needs}
 use Rattle.cpu.proofs.address.pointer.Statement.{statement}
 use Rattle.cpu.proofs.address.pointer.Tie as tie
 
--- src/address.rt:52:31
 fetch-requires : tie.Need-fetch-requires
 fetch-requires c κs = search needs
 
--- src/address.rt:52:23
 enum-known-high : tie.Need-enum-known-high
 enum-known-high c = search needs
 
--- src/address.rt:53:9
 enum-told : tie.Need-enum-told
 enum-told c = search needs
 
--- src/address.rt:53:9
 returns : tie.Need-returns
 unfolding pointerOf withByte
 returns c =
     rw (sym (c .before .before .fetch .ensures) ∙ c .enum-told .given .1)
 
--- src/address.rt:55:44
 in-page-requires : tie.Need-in-page-requires
 in-page-requires c κs = search needs
 
--- src/address.rt:55:30
 fetch-requires-2 : tie.Need-fetch-requires-2
 fetch-requires-2 c κs = search needs
 
--- src/address.rt:55:23
 enum-known-low : tie.Need-enum-known-low
 enum-known-low c = search needs
 
--- src/address.rt:56:9
 enum-told-2 : tie.Need-enum-told-2
 enum-told-2 c = search needs
 
--- src/address.rt:56:9
 returns-2 : tie.Need-returns-2
 unfolding pointerOf withByte
 returns-2 c =
@@ -48,11 +39,9 @@ returns-2 c =
       sym (c .before .before .fetch2 .ensures) ∙ c .enum-told2 .given .1,
     )
 
--- src/address.rt:58:9
 joined-requires : tie.Need-joined-requires
 joined-requires c κs = search needs
 
--- src/address.rt:49:1
 returns-3 : tie.Need-returns-3
 unfolding pointerOf withByte
 returns-3 c =

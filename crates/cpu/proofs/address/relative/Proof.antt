@@ -1,19 +1,16 @@
 use Rattle.cpu.proofs.Signed16.{displacement-small, held-as, held-small}
 use Rattle.cpu.specs.Address.{displacedOf, relativeOf}
-use borrow.Author.Needs.{needs}
 use mathlib.Core.Path.{_∙_, ap}
+use borrow.Author.Needs.{needs}
 use Rattle.cpu.proofs.address.relative.Statement.{statement}
 use Rattle.cpu.proofs.address.relative.Tie as tie
 
--- src/address.rt:92:9
 displacement-requires : tie.Need-displacement-requires
 displacement-requires c κs = search needs
 
--- src/address.rt:93:5
 displaced-requires : tie.Need-displaced-requires
 displaced-requires c κs = held-small _ _ (c .displacement .ensures) (displacement-small (c .before .args .b))
 
--- src/address.rt:89:1
 returns : tie.Need-returns
 unfolding relativeOf
 returns c = c .displaced .ensures ∙ ap (displacedOf (c .before .before .args .next)) (held-as _ _ (c .before .displacement .ensures) (displacement-small (c .before .before .args .b)))

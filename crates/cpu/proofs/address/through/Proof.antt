@@ -1,21 +1,18 @@
 use Rattle.cpu.specs.Address.{throughOf}
 use Rattle.cpu.specs.Choice.{if_then_else_}
-use borrow.Author.Needs.{needs}
 use borrow.Author.Tests.{eq-eqb, ne-eqb}
+use borrow.Author.Needs.{needs}
 use Rattle.cpu.proofs.address.through.Statement.{statement}
 use Rattle.cpu.proofs.address.through.Tie as tie
 
--- src/address.rt:68:9
 pointer-requires : tie.Need-pointer-requires
 pointer-requires c κs = search needs
 
--- src/address.rt:62:1
 returns : tie.Need-returns
 unfolding throughOf if_then_else_
 returns c =
     rw (eq-eqb _ _ (c .if1 .taken))
 
--- src/address.rt:62:1
 returns-2 : tie.Need-returns-2
 unfolding throughOf if_then_else_
 returns-2 c =

@@ -3,31 +3,24 @@ use borrow.Author.Needs.{needs}
 use Rattle.cpu.proofs.alu.added.Statement.{statement}
 use Rattle.cpu.proofs.alu.added.Tie as tie
 
--- src/alu.rt:93:9
 sum-requires : tie.Need-sum-requires
 sum-requires c κs = search needs
 
--- src/alu.rt:94:9
 condition-requires : tie.Need-condition-requires
 condition-requires c κs = search needs
 
--- src/alu.rt:95:9
 digit-carry-requires : tie.Need-digit-carry-requires
 digit-carry-requires c κs = search needs
 
--- src/alu.rt:96:9
 overflow-requires : tie.Need-overflow-requires
 overflow-requires c κs = search needs
 
--- src/alu.rt:97:9
 carry-requires : tie.Need-carry-requires
 carry-requires c κs = search needs
 
--- src/alu.rt:100:14
 with-flags-requires : tie.Need-with-flags-requires
 with-flags-requires c κs = search needs
 
--- src/alu.rt:88:1
 returns : tie.Need-returns
 unfolding addedOf
 returns c = (

@@ -5,12 +5,10 @@ use native.Mathlib.Omega.{arith}
 use Rattle.cpu.proofs.alu.carry_in.Statement.{statement}
 use Rattle.cpu.proofs.alu.carry_in.Tie as tie
 
--- src/alu.rt:104:1
 returns : tie.Need-returns
 unfolding carryInOf if_then_else_
 returns c = search tests
 
--- src/alu.rt:104:1
 returns-2 : tie.Need-returns-2
 unfolding carryInOf if_then_else_
 returns-2 c = (search tests, omega arith)

@@ -2,45 +2,36 @@ use Rattle.cpu.proofs.Signed16.{signed-test}
 use Rattle.cpu.proofs.Tests.{tests}
 use Rattle.cpu.specs.Alu.{compareOf}
 use Rattle.cpu.specs.Choice.{if_then_else_}
-use borrow.Author.Needs.{needs}
 use mathlib.Core.Bool.{false, true}
+use borrow.Author.Needs.{needs}
 use Rattle.cpu.proofs.alu.compare.Statement.{statement}
 use Rattle.cpu.proofs.alu.compare.Tie as tie
 
--- src/alu.rt:134:9
 returns : tie.Need-returns
 unfolding compareOf if_then_else_
 returns c = search tests
 
--- src/alu.rt:137:13
 signed-requires : tie.Need-signed-requires
 signed-requires c κs = search needs
 
--- src/alu.rt:138:13
 signed-requires-2 : tie.Need-signed-requires-2
 signed-requires-2 c κs = search needs
 
--- src/alu.rt:129:1
 returns-2 : tie.Need-returns-2
 unfolding compareOf if_then_else_
 returns-2 c = let h = signed-test _ _ _ _ true (c .before .signed2 .ok) (c .before .before .signed .ok) (c .before .signed2 .ensures) (c .before .before .signed .ensures) (c .if3 .taken) in search (tests, h)
 
--- src/alu.rt:129:1
 returns-3 : tie.Need-returns-3
 unfolding compareOf if_then_else_
 returns-3 c = let h = signed-test _ _ _ _ false (c .before .signed2 .ok) (c .before .before .signed .ok) (c .before .signed2 .ensures) (c .before .before .signed .ensures) (c .if3 .left) in search (tests, h)
 
--- src/alu.rt:129:1
 returns-4 : tie.Need-returns-4
 unfolding compareOf if_then_else_
 returns-4 c = search tests
 
--- src/alu.rt:129:1
 returns-5 : tie.Need-returns-5
 unfolding compareOf if_then_else_
 returns-5 c = search tests
 
 pub compare-spec : {M : Type 1} → statement M
-compare-spec =
-    tie.close
-    (tie.spec returns signed-requires signed-requires-2 returns-2 returns-3 returns-4 returns-5)
+compare-spec = tie.close (tie.spec returns signed-requires signed-requires-2 returns-2 returns-3 returns-4 returns-5)

@@ -3,15 +3,12 @@ use borrow.Author.Needs.{needs}
 use Rattle.cpu.proofs.alu.compared.Statement.{statement}
 use Rattle.cpu.proofs.alu.compared.Tie as tie
 
--- src/alu.rt:151:9
 compare-requires : tie.Need-compare-requires
 compare-requires c κs = search needs
 
--- src/alu.rt:154:14
 with-cc-requires : tie.Need-with-cc-requires
 with-cc-requires c κs = search needs
 
--- src/alu.rt:147:1
 returns : tie.Need-returns
 unfolding comparedOf
 returns c = (

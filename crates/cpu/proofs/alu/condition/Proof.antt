@@ -4,17 +4,14 @@ use Rattle.cpu.specs.Choice.{if_then_else_}
 use Rattle.cpu.proofs.alu.condition.Statement.{statement}
 use Rattle.cpu.proofs.alu.condition.Tie as tie
 
--- src/alu.rt:13:1
 returns : tie.Need-returns
 unfolding conditionOf if_then_else_
 returns c = search tests
 
--- src/alu.rt:13:1
 returns-2 : tie.Need-returns-2
 unfolding conditionOf if_then_else_
 returns-2 c = search tests
 
--- src/alu.rt:13:1
 returns-3 : tie.Need-returns-3
 unfolding conditionOf if_then_else_
 returns-3 c = search tests

@@ -3,27 +3,21 @@ use borrow.Author.Needs.{needs}
 use Rattle.cpu.proofs.alu.decimal.Statement.{statement}
 use Rattle.cpu.proofs.alu.decimal.Tie as tie
 
--- src/alu.rt:227:9
 digit-requires : tie.Need-digit-requires
 digit-requires c κs = search needs
 
--- src/alu.rt:228:9
 digit-requires-2 : tie.Need-digit-requires-2
 digit-requires-2 c κs = search needs
 
--- src/alu.rt:229:17
 mul-loaded : tie.Need-mul-loaded
 mul-loaded c = search needs
 
--- src/alu.rt:229:17
 add-loaded : tie.Need-add-loaded
 add-loaded c = search needs
 
--- src/alu.rt:229:5
 loaded-requires : tie.Need-loaded-requires
 loaded-requires c κs = search needs
 
--- src/alu.rt:223:1
 returns : tie.Need-returns
 unfolding decimalOf
 returns c = (
@@ -36,6 +30,4 @@ returns c = (
 )
 
 pub decimal-spec : {M : Type 1} → statement M
-decimal-spec =
-    tie.close
-    (tie.spec digit-requires digit-requires-2 mul-loaded add-loaded loaded-requires returns)
+decimal-spec = tie.close (tie.spec digit-requires digit-requires-2 mul-loaded add-loaded loaded-requires returns)

@@ -1,21 +1,18 @@
 use Rattle.cpu.proofs.Tests.{tests}
 use Rattle.cpu.specs.Alu.{digitOf}
 use Rattle.cpu.specs.Choice.{if_then_else_}
-use borrow.Author.Needs.{needs}
 use native.Mathlib.Omega.{arith}
+use borrow.Author.Needs.{needs}
 use Rattle.cpu.proofs.alu.digit.Statement.{statement}
 use Rattle.cpu.proofs.alu.digit.Tie as tie
 
--- src/alu.rt:220:22
 add-result : tie.Need-add-result
 add-result c = search needs
 
--- src/alu.rt:215:1
 returns : tie.Need-returns
 unfolding digitOf if_then_else_
 returns c = (search tests, omega arith)
 
--- src/alu.rt:215:1
 returns-2 : tie.Need-returns-2
 unfolding digitOf if_then_else_
 returns-2 c = search tests

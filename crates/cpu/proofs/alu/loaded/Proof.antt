@@ -3,15 +3,12 @@ use borrow.Author.Needs.{needs}
 use Rattle.cpu.proofs.alu.loaded.Statement.{statement}
 use Rattle.cpu.proofs.alu.loaded.Tie as tie
 
--- src/alu.rt:116:9
 condition-requires : tie.Need-condition-requires
 condition-requires c κs = search needs
 
--- src/alu.rt:119:14
 with-cc-requires : tie.Need-with-cc-requires
 with-cc-requires c κs = search needs
 
--- src/alu.rt:112:1
 returns : tie.Need-returns
 unfolding loadedOf
 returns c = (

@@ -3,75 +3,57 @@ use borrow.Author.Needs.{needs}
 use Rattle.cpu.proofs.alu.operate.Statement.{statement}
 use Rattle.cpu.proofs.alu.operate.Tie as tie
 
--- src/alu.rt:163:27
 enum-told : tie.Need-enum-told
 enum-told c = search needs
 
--- src/alu.rt:163:27
 loaded-requires : tie.Need-loaded-requires
 loaded-requires c κs = search needs
 
--- src/alu.rt:164:39
 enum-told-2 : tie.Need-enum-told-2
 enum-told-2 c = search needs
 
--- src/alu.rt:164:27
 loaded-requires-2 : tie.Need-loaded-requires-2
 loaded-requires-2 c κs = search needs
 
--- src/alu.rt:165:39
 enum-told-3 : tie.Need-enum-told-3
 enum-told-3 c = search needs
 
--- src/alu.rt:165:27
 loaded-requires-3 : tie.Need-loaded-requires-3
 loaded-requires-3 c κs = search needs
 
--- src/alu.rt:166:39
 enum-told-4 : tie.Need-enum-told-4
 enum-told-4 c = search needs
 
--- src/alu.rt:166:27
 loaded-requires-4 : tie.Need-loaded-requires-4
 loaded-requires-4 c κs = search needs
 
--- src/alu.rt:167:44
 enum-told-5 : tie.Need-enum-told-5
 enum-told-5 c = search needs
 
--- src/alu.rt:167:44
 carry-in-requires : tie.Need-carry-in-requires
 carry-in-requires c κs = search needs
 
--- src/alu.rt:167:27
 added-requires : tie.Need-added-requires
 added-requires c κs = search needs
 
--- src/alu.rt:168:41
 enum-told-6 : tie.Need-enum-told-6
 enum-told-6 c = search needs
 
--- src/alu.rt:168:41
 sub-added : tie.Need-sub-added
 sub-added c = search needs
 
--- src/alu.rt:168:50
 carry-in-requires-2 : tie.Need-carry-in-requires-2
 carry-in-requires-2 c κs = search needs
 
--- src/alu.rt:168:27
 added-requires-2 : tie.Need-added-requires-2
 added-requires-2 c κs = search needs
 
--- src/alu.rt:169:27
 enum-told-7 : tie.Need-enum-told-7
 enum-told-7 c = search needs
 
--- src/alu.rt:169:27
 compared-requires : tie.Need-compared-requires
 compared-requires c κs = search needs
 
--- src/alu.rt:158:1
 returns : tie.Need-returns
 unfolding operateOf
 returns c = (
@@ -82,7 +64,6 @@ returns c = (
   c .loaded .ensures .1,
 )
 
--- src/alu.rt:158:1
 returns-2 : tie.Need-returns-2
 unfolding operateOf
 returns-2 c = (
@@ -93,7 +74,6 @@ returns-2 c = (
   c .loaded2 .ensures .1,
 )
 
--- src/alu.rt:158:1
 returns-3 : tie.Need-returns-3
 unfolding operateOf
 returns-3 c = (
@@ -104,7 +84,6 @@ returns-3 c = (
   c .loaded3 .ensures .1,
 )
 
--- src/alu.rt:158:1
 returns-4 : tie.Need-returns-4
 unfolding operateOf
 returns-4 c = (
@@ -115,7 +94,6 @@ returns-4 c = (
   c .loaded4 .ensures .1,
 )
 
--- src/alu.rt:158:1
 returns-5 : tie.Need-returns-5
 unfolding operateOf
 returns-5 c = (
@@ -127,7 +105,6 @@ returns-5 c = (
   c .added .ensures .1,
 )
 
--- src/alu.rt:158:1
 returns-6 : tie.Need-returns-6
 unfolding operateOf
 returns-6 c = (
@@ -139,7 +116,6 @@ returns-6 c = (
   c .added2 .ensures .1,
 )
 
--- src/alu.rt:158:1
 returns-7 : tie.Need-returns-7
 unfolding operateOf
 returns-7 c = (

@@ -3,19 +3,15 @@ use borrow.Author.Needs.{needs}
 use Rattle.cpu.proofs.alu.rotated.Statement.{statement}
 use Rattle.cpu.proofs.alu.rotated.Tie as tie
 
--- src/alu.rt:186:9
 condition-requires : tie.Need-condition-requires
 condition-requires c κs = search needs
 
--- src/alu.rt:189:47
 add-with-flags : tie.Need-add-with-flags
 add-with-flags c = search needs
 
--- src/alu.rt:189:14
 with-flags-requires : tie.Need-with-flags-requires
 with-flags-requires c κs = search needs
 
--- src/alu.rt:181:1
 returns : tie.Need-returns
 unfolding rotatedOf
 returns c = (

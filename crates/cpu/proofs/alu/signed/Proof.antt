@@ -1,30 +1,25 @@
 use Rattle.cpu.proofs.Signed16.{minus-back, minus-fits, small}
 use Rattle.cpu.specs.Alu.{signedOf}
 use Rattle.cpu.specs.Choice.{if_then_else_}
-use borrow.Author.Needs.{needs}
 use borrow.Author.Tests.{le-ltb, lt-ltb}
 use native.Mathlib.Omega.{arith}
+use borrow.Author.Needs.{needs}
 use Rattle.cpu.proofs.alu.signed.Statement.{statement}
 use Rattle.cpu.proofs.alu.signed.Tie as tie
 
--- src/alu.rt:126:18
 cast-result : tie.Need-cast-result
 cast-result c = search needs
 
--- src/alu.rt:126:36
 cast-result-2 : tie.Need-cast-result-2
 cast-result-2 c = search needs
 
--- src/alu.rt:126:36
 sub-result : tie.Need-sub-result
 sub-result c = minus-fits (c .before .args .b) 255 (omega arith) (omega arith)
 
--- src/alu.rt:123:1
 returns : tie.Need-returns
 unfolding signedOf if_then_else_
 returns c = rw (lt-ltb _ _ (c .if1 .taken)) (small (c .before .args .b) (omega arith))
 
--- src/alu.rt:123:1
 returns-2 : tie.Need-returns-2
 unfolding signedOf if_then_else_
 returns-2 c = rw (le-ltb _ _ (c .if1 .left)) (minus-back (c .before .args .b) 255 (omega arith) (omega arith))

@@ -4,12 +4,10 @@ use Rattle.cpu.specs.Choice.{if_then_else_}
 use Rattle.cpu.proofs.alu.test.Statement.{statement}
 use Rattle.cpu.proofs.alu.test.Tie as tie
 
--- src/alu.rt:173:1
 returns : tie.Need-returns
 unfolding testOf if_then_else_
 returns c = search tests
 
--- src/alu.rt:173:1
 returns-2 : tie.Need-returns-2
 unfolding testOf if_then_else_
 returns-2 c = search tests

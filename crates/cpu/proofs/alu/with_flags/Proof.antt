@@ -1,50 +1,39 @@
 use Rattle.cpu.proofs.Sums.{bank-kept}
-use borrow.Author.Needs.{needs}
 use mathlib.Core.Path.{refl}
+use borrow.Author.Needs.{needs}
 use Rattle.cpu.proofs.alu.with_flags.Statement.{statement}
 use Rattle.cpu.proofs.alu.with_flags.Tie as tie
 
--- src/alu.rt:42:5
 mul-result : tie.Need-mul-result
 mul-result c = search needs
 
--- src/alu.rt:42:15
 mul-result-2 : tie.Need-mul-result-2
 mul-result-2 c = search needs
 
--- src/alu.rt:42:5
 add-result : tie.Need-add-result
 add-result c = search needs
 
--- src/alu.rt:42:26
 mul-result-3 : tie.Need-mul-result-3
 mul-result-3 c = search needs
 
--- src/alu.rt:42:5
 add-result-2 : tie.Need-add-result-2
 add-result-2 c = search needs
 
--- src/alu.rt:42:44
 mul-result-4 : tie.Need-mul-result-4
 mul-result-4 c = search needs
 
--- src/alu.rt:42:5
 add-result-3 : tie.Need-add-result-3
 add-result-3 c = search needs
 
--- src/alu.rt:42:54
 mul-result-5 : tie.Need-mul-result-5
 mul-result-5 c = search needs
 
--- src/alu.rt:42:5
 add-result-4 : tie.Need-add-result-4
 add-result-4 c = search needs
 
--- src/alu.rt:42:5
 add-result-5 : tie.Need-add-result-5
 add-result-5 c = search needs
 
--- src/alu.rt:34:1
 returns : tie.Need-returns
 returns c = (refl, bank-kept _ _ _ _ _ (c .pre .1 .1 .0) (c .pre .1 .1 .1))
 

@@ -1,27 +1,22 @@
 use Rattle.cpu.specs.Address.{withByte}
 use Rattle.cpu.specs.Branch.{targetOf}
-use borrow.Author.Needs.{needs}
 use mathlib.Core.Path.{_∙_, sym}
+use borrow.Author.Needs.{needs}
 use Rattle.cpu.proofs.branch.aim.Statement.{statement}
 use Rattle.cpu.proofs.branch.aim.Tie as tie
 
--- src/branch.rt:142:9
 after-requires : tie.Need-after-requires
 after-requires c κs = search needs
 
--- src/branch.rt:143:31
 fetch-requires : tie.Need-fetch-requires
 fetch-requires c κs = search needs
 
--- src/branch.rt:143:23
 enum-known-high : tie.Need-enum-known-high
 enum-known-high c = search needs
 
--- src/branch.rt:144:9
 enum-told : tie.Need-enum-told
 enum-told c = search needs
 
--- src/branch.rt:144:9
 returns : tie.Need-returns
 unfolding targetOf withByte
 returns c =
@@ -30,35 +25,27 @@ returns c =
       sym (c .before .before .fetch .ensures) ∙ c .enum-told .given .1,
     )
 
--- src/branch.rt:146:9
 after-requires-2 : tie.Need-after-requires-2
 after-requires-2 c κs = search needs
 
--- src/branch.rt:149:17
 enum-told-2 : tie.Need-enum-told-2
 enum-told-2 c = search needs
 
--- src/branch.rt:149:17
 relative-requires : tie.Need-relative-requires
 relative-requires c κs = search needs
 
--- src/branch.rt:153:38
 enum-told-3 : tie.Need-enum-told-3
 enum-told-3 c = search needs
 
--- src/branch.rt:153:38
 fetch-requires-2 : tie.Need-fetch-requires-2
 fetch-requires-2 c κs = search needs
 
--- src/branch.rt:153:31
 enum-known-low : tie.Need-enum-known-low
 enum-known-low c = search needs
 
--- src/branch.rt:154:17
 enum-told-4 : tie.Need-enum-told-4
 enum-told-4 c = search needs
 
--- src/branch.rt:154:17
 returns-2 : tie.Need-returns-2
 unfolding targetOf withByte
 returns-2 c =
@@ -70,15 +57,12 @@ returns-2 c =
       sym (c .before .before .fetch2 .ensures) ∙ c .enum-told4 .given .1,
     )
 
--- src/branch.rt:156:17
 joined-requires : tie.Need-joined-requires
 joined-requires c κs = search needs
 
--- src/branch.rt:157:17
 after-requires-3 : tie.Need-after-requires-3
 after-requires-3 c κs = search needs
 
--- src/branch.rt:139:1
 returns-3 : tie.Need-returns-3
 unfolding targetOf withByte
 returns-3 c =
@@ -90,7 +74,6 @@ returns-3 c =
       ← c .relative .ensures,
     )
 
--- src/branch.rt:139:1
 returns-4 : tie.Need-returns-4
 unfolding targetOf withByte
 returns-4 c =

@@ -1,26 +1,21 @@
 use Rattle.cpu.specs.Branch.{branchOf}
-use borrow.Author.Needs.{needs}
 use mathlib.Core.Path.{_∙_, sym}
+use borrow.Author.Needs.{needs}
 use Rattle.cpu.proofs.branch.branch.Statement.{statement}
 use Rattle.cpu.proofs.branch.branch.Tie as tie
 
--- src/branch.rt:167:41
 aim-requires : tie.Need-aim-requires
 aim-requires c κs = search needs
 
--- src/branch.rt:167:20
 enum-known-indirect : tie.Need-enum-known-indirect
 enum-known-indirect c = search needs
 
--- src/branch.rt:168:9
 enum-told : tie.Need-enum-told
 enum-told c = search needs
 
--- src/branch.rt:168:9
 stopped-requires : tie.Need-stopped-requires
 stopped-requires c κs = search needs
 
--- src/branch.rt:168:9
 returns : tie.Need-returns
 unfolding branchOf
 returns c =
@@ -29,15 +24,12 @@ returns c =
       ← c .stopped .ensures,
     )
 
--- src/branch.rt:170:9
 counted-requires : tie.Need-counted-requires
 counted-requires c κs = search needs
 
--- src/branch.rt:171:5
 branched-requires : tie.Need-branched-requires
 branched-requires c κs = search needs
 
--- src/branch.rt:163:1
 returns-2 : tie.Need-returns-2
 unfolding branchOf
 returns-2 c =

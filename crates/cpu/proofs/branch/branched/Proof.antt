@@ -1,32 +1,26 @@
 use Rattle.cpu.specs.Address.{withAddress}
 use Rattle.cpu.specs.Branch.{branchedOf}
 use Rattle.cpu.specs.Choice.{if_then_else_}
-use borrow.Author.Needs.{needs}
 use mathlib.Core.Path.{_∙_, sym}
+use borrow.Author.Needs.{needs}
 use Rattle.cpu.proofs.branch.branched.Statement.{statement}
 use Rattle.cpu.proofs.branch.branched.Tie as tie
 
--- src/branch.rt:127:8
 taken-requires : tie.Need-taken-requires
 taken-requires c κs = search needs
 
--- src/branch.rt:128:30
 through-requires : tie.Need-through-requires
 through-requires c κs = search needs
 
--- src/branch.rt:128:25
 enum-known-t : tie.Need-enum-known-t
 enum-known-t c = search needs
 
--- src/branch.rt:129:13
 enum-told : tie.Need-enum-told
 enum-told c = search needs
 
--- src/branch.rt:129:13
 stopped-requires : tie.Need-stopped-requires
 stopped-requires c κs = search needs
 
--- src/branch.rt:129:13
 returns : tie.Need-returns
 unfolding branchedOf withAddress if_then_else_
 returns c =
@@ -36,23 +30,18 @@ returns c =
       ← c .stopped .ensures,
     )
 
--- src/branch.rt:131:13
 calls-requires : tie.Need-calls-requires
 calls-requires c κs = search needs
 
--- src/branch.rt:132:9
 jumped-requires : tie.Need-jumped-requires
 jumped-requires c κs = search needs
 
--- src/branch.rt:134:13
 with-counter-requires : tie.Need-with-counter-requires
 with-counter-requires c κs = search needs
 
--- src/branch.rt:135:9
 going-requires : tie.Need-going-requires
 going-requires c κs = search needs
 
--- src/branch.rt:114:1
 returns-2 : tie.Need-returns-2
 unfolding branchedOf withAddress if_then_else_
 returns-2 c =
@@ -63,7 +52,6 @@ returns-2 c =
       ← c .jumped .ensures,
     )
 
--- src/branch.rt:114:1
 returns-3 : tie.Need-returns-3
 unfolding branchedOf withAddress if_then_else_
 returns-3 c =

@@ -3,81 +3,65 @@ use borrow.Author.Needs.{needs}
 use Rattle.cpu.proofs.branch.calls.Statement.{statement}
 use Rattle.cpu.proofs.branch.calls.Tie as tie
 
--- src/branch.rt:90:22
 enum-told : tie.Need-enum-told
 enum-told c = search needs
 
--- src/branch.rt:91:22
 enum-told-2 : tie.Need-enum-told-2
 enum-told-2 c = search needs
 
--- src/branch.rt:92:22
 enum-told-3 : tie.Need-enum-told-3
 enum-told-3 c = search needs
 
--- src/branch.rt:93:22
 enum-told-4 : tie.Need-enum-told-4
 enum-told-4 c = search needs
 
--- src/branch.rt:94:22
 enum-told-5 : tie.Need-enum-told-5
 enum-told-5 c = search needs
 
--- src/branch.rt:95:22
 enum-told-6 : tie.Need-enum-told-6
 enum-told-6 c = search needs
 
--- src/branch.rt:96:22
 enum-told-7 : tie.Need-enum-told-7
 enum-told-7 c = search needs
 
--- src/branch.rt:97:22
 enum-told-8 : tie.Need-enum-told-8
 enum-told-8 c = search needs
 
--- src/branch.rt:86:1
 returns : tie.Need-returns
 unfolding callsOf
 returns c =
     rw (c .enum-told .given .1)
 
--- src/branch.rt:86:1
 returns-2 : tie.Need-returns-2
 unfolding callsOf
 returns-2 c =
     rw (c .enum-told2 .given .1)
 
--- src/branch.rt:86:1
 returns-3 : tie.Need-returns-3
 unfolding callsOf
 returns-3 c =
     rw (c .enum-told3 .given .1)
 
--- src/branch.rt:86:1
 returns-4 : tie.Need-returns-4
 unfolding callsOf
 returns-4 c =
     rw (c .enum-told4 .given .1)
 
--- src/branch.rt:86:1
 returns-5 : tie.Need-returns-5
 unfolding callsOf
 returns-5 c =
     rw (c .enum-told5 .given .1)
 
--- src/branch.rt:86:1
 returns-6 : tie.Need-returns-6
 unfolding callsOf
 returns-6 c =
     rw (c .enum-told6 .given .1)
 
--- src/branch.rt:86:1
 returns-7 : tie.Need-returns-7
 unfolding callsOf
 returns-7 c =
     rw (c .enum-told7 .given .1)
 
--- src/branch.rt:86:1
 returns-8 : tie.Need-returns-8
 unfolding callsOf
 returns-8 c =

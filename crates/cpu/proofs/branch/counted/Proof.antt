@@ -3,63 +3,48 @@ use borrow.Author.Needs.{needs}
 use Rattle.cpu.proofs.branch.counted.Statement.{statement}
 use Rattle.cpu.proofs.branch.counted.Tie as tie
 
--- src/branch.rt:52:17
 enum-told : tie.Need-enum-told
 enum-told c = search needs
 
--- src/branch.rt:52:17
 register-requires : tie.Need-register-requires
 register-requires c κs = search needs
 
--- src/branch.rt:53:17
 wrapping-add-u8-requires : tie.Need-wrapping-add-u8-requires
 wrapping-add-u8-requires c κs = search needs
 
--- src/branch.rt:54:13
 with-register-requires : tie.Need-with-register-requires
 with-register-requires c κs = search needs
 
--- src/branch.rt:57:17
 enum-told-2 : tie.Need-enum-told-2
 enum-told-2 c = search needs
 
--- src/branch.rt:57:17
 register-requires-2 : tie.Need-register-requires-2
 register-requires-2 c κs = search needs
 
--- src/branch.rt:58:17
 wrapping-add-u8-requires-2 : tie.Need-wrapping-add-u8-requires-2
 wrapping-add-u8-requires-2 c κs = search needs
 
--- src/branch.rt:59:13
 with-register-requires-2 : tie.Need-with-register-requires-2
 with-register-requires-2 c κs = search needs
 
--- src/branch.rt:61:22
 enum-told-3 : tie.Need-enum-told-3
 enum-told-3 c = search needs
 
--- src/branch.rt:62:22
 enum-told-4 : tie.Need-enum-told-4
 enum-told-4 c = search needs
 
--- src/branch.rt:63:22
 enum-told-5 : tie.Need-enum-told-5
 enum-told-5 c = search needs
 
--- src/branch.rt:64:22
 enum-told-6 : tie.Need-enum-told-6
 enum-told-6 c = search needs
 
--- src/branch.rt:65:22
 enum-told-7 : tie.Need-enum-told-7
 enum-told-7 c = search needs
 
--- src/branch.rt:66:22
 enum-told-8 : tie.Need-enum-told-8
 enum-told-8 c = search needs
 
--- src/branch.rt:46:1
 returns : tie.Need-returns
 unfolding countedOf
 returns c =
@@ -70,7 +55,6 @@ returns c =
       ← c .with-register .ensures,
     )
 
--- src/branch.rt:46:1
 returns-2 : tie.Need-returns-2
 unfolding countedOf
 returns-2 c =
@@ -81,37 +65,31 @@ returns-2 c =
       ← c .with-register2 .ensures,
     )
 
--- src/branch.rt:46:1
 returns-3 : tie.Need-returns-3
 unfolding countedOf
 returns-3 c =
     rw (c .enum-told3 .given .1)
 
--- src/branch.rt:46:1
 returns-4 : tie.Need-returns-4
 unfolding countedOf
 returns-4 c =
     rw (c .enum-told4 .given .1)
 
--- src/branch.rt:46:1
 returns-5 : tie.Need-returns-5
 unfolding countedOf
 returns-5 c =
     rw (c .enum-told5 .given .1)
 
--- src/branch.rt:46:1
 returns-6 : tie.Need-returns-6
 unfolding countedOf
 returns-6 c =
     rw (c .enum-told6 .given .1)
 
--- src/branch.rt:46:1
 returns-7 : tie.Need-returns-7
 unfolding countedOf
 returns-7 c =
     rw (c .enum-told7 .given .1)
 
--- src/branch.rt:46:1
 returns-8 : tie.Need-returns-8
 unfolding countedOf
 returns-8 c =

@@ -3,23 +3,18 @@ use borrow.Author.Needs.{needs}
 use Rattle.cpu.proofs.branch.enabled.Statement.{statement}
 use Rattle.cpu.proofs.branch.enabled.Tie as tie
 
--- src/branch.rt:225:9
 psu-requires : tie.Need-psu-requires
 psu-requires c κs = search needs
 
--- src/branch.rt:226:23
 mul-with-psu : tie.Need-mul-with-psu
 mul-with-psu c = search needs
 
--- src/branch.rt:226:23
 add-with-psu : tie.Need-add-with-psu
 add-with-psu c = search needs
 
--- src/branch.rt:226:5
 with-psu-requires : tie.Need-with-psu-requires
 with-psu-requires c κs = search needs
 
--- src/branch.rt:222:1
 returns : tie.Need-returns
 unfolding enabledOf
 returns c =
@@ -29,5 +24,4 @@ returns c =
     )
 
 pub enabled-spec : {M : Type 1} → statement M
-enabled-spec =
-    tie.close (tie.spec psu-requires mul-with-psu add-with-psu with-psu-requires returns)
+enabled-spec = tie.close (tie.spec psu-requires mul-with-psu add-with-psu with-psu-requires returns)

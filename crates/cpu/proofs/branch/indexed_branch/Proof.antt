@@ -1,31 +1,25 @@
 use Rattle.cpu.specs.Address.{withAddress, withByte}
 use Rattle.cpu.specs.Branch.{indexedBranchOf}
-use borrow.Author.Needs.{needs}
 use mathlib.Core.Path.{_∙_, sym}
+use borrow.Author.Needs.{needs}
 use Rattle.cpu.proofs.branch.indexed_branch.Statement.{statement}
 use Rattle.cpu.proofs.branch.indexed_branch.Tie as tie
 
--- src/branch.rt:192:9
 after-requires : tie.Need-after-requires
 after-requires c κs = search needs
 
--- src/branch.rt:193:31
 fetch-requires : tie.Need-fetch-requires
 fetch-requires c κs = search needs
 
--- src/branch.rt:193:23
 enum-known-high : tie.Need-enum-known-high
 enum-known-high c = search needs
 
--- src/branch.rt:194:9
 enum-told : tie.Need-enum-told
 enum-told c = search needs
 
--- src/branch.rt:194:9
 stopped-requires : tie.Need-stopped-requires
 stopped-requires c κs = search needs
 
--- src/branch.rt:194:9
 returns : tie.Need-returns
 unfolding indexedBranchOf withByte withAddress
 returns c =
@@ -35,27 +29,21 @@ returns c =
       ← c .stopped .ensures,
     )
 
--- src/branch.rt:196:9
 after-requires-2 : tie.Need-after-requires-2
 after-requires-2 c κs = search needs
 
--- src/branch.rt:197:30
 fetch-requires-2 : tie.Need-fetch-requires-2
 fetch-requires-2 c κs = search needs
 
--- src/branch.rt:197:23
 enum-known-low : tie.Need-enum-known-low
 enum-known-low c = search needs
 
--- src/branch.rt:198:9
 enum-told-2 : tie.Need-enum-told-2
 enum-told-2 c = search needs
 
--- src/branch.rt:198:9
 stopped-requires-2 : tie.Need-stopped-requires-2
 stopped-requires-2 c κs = search needs
 
--- src/branch.rt:198:9
 returns-2 : tie.Need-returns-2
 unfolding indexedBranchOf withByte withAddress
 returns-2 c =
@@ -67,27 +55,21 @@ returns-2 c =
       ← c .stopped2 .ensures,
     )
 
--- src/branch.rt:200:9
 joined-requires : tie.Need-joined-requires
 joined-requires c κs = search needs
 
--- src/branch.rt:201:26
 through-requires : tie.Need-through-requires
 through-requires c κs = search needs
 
--- src/branch.rt:201:21
 enum-known-t : tie.Need-enum-known-t
 enum-known-t c = search needs
 
--- src/branch.rt:202:9
 enum-told-3 : tie.Need-enum-told-3
 enum-told-3 c = search needs
 
--- src/branch.rt:202:9
 stopped-requires-3 : tie.Need-stopped-requires-3
 stopped-requires-3 c κs = search needs
 
--- src/branch.rt:202:9
 returns-3 : tie.Need-returns-3
 unfolding indexedBranchOf withByte withAddress
 returns-3 c =
@@ -101,23 +83,18 @@ returns-3 c =
       ← c .stopped3 .ensures,
     )
 
--- src/branch.rt:204:9
 register-requires : tie.Need-register-requires
 register-requires c κs = search needs
 
--- src/branch.rt:205:9
 onward-requires : tie.Need-onward-requires
 onward-requires c κs = search needs
 
--- src/branch.rt:206:9
 after-requires-3 : tie.Need-after-requires-3
 after-requires-3 c κs = search needs
 
--- src/branch.rt:207:5
 jumped-requires : tie.Need-jumped-requires
 jumped-requires c κs = search needs
 
--- src/branch.rt:189:1
 returns-4 : tie.Need-returns-4
 unfolding indexedBranchOf withByte withAddress
 returns-4 c =

@@ -4,27 +4,21 @@ use borrow.Author.Needs.{needs}
 use Rattle.cpu.proofs.branch.jumped.Statement.{statement}
 use Rattle.cpu.proofs.branch.jumped.Tie as tie
 
--- src/branch.rt:105:13
 call-requires : tie.Need-call-requires
 call-requires c κs = search needs
 
--- src/branch.rt:106:13
 with-counter-requires : tie.Need-with-counter-requires
 with-counter-requires c κs = search needs
 
--- src/branch.rt:107:9
 going-requires : tie.Need-going-requires
 going-requires c κs = search needs
 
--- src/branch.rt:109:13
 with-counter-requires-2 : tie.Need-with-counter-requires-2
 with-counter-requires-2 c κs = search needs
 
--- src/branch.rt:110:9
 going-requires-2 : tie.Need-going-requires-2
 going-requires-2 c κs = search needs
 
--- src/branch.rt:101:1
 returns : tie.Need-returns
 unfolding jumpedOf if_then_else_
 returns c =
@@ -35,7 +29,6 @@ returns c =
       ← c .going .ensures,
     )
 
--- src/branch.rt:101:1
 returns-2 : tie.Need-returns-2
 unfolding jumpedOf if_then_else_
 returns-2 c =

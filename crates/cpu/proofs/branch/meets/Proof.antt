@@ -4,12 +4,10 @@ use Rattle.cpu.specs.Choice.{if_then_else_}
 use Rattle.cpu.proofs.branch.meets.Statement.{statement}
 use Rattle.cpu.proofs.branch.meets.Tie as tie
 
--- src/branch.rt:23:1
 returns : tie.Need-returns
 unfolding meetsOf if_then_else_
 returns c = search tests
 
--- src/branch.rt:23:1
 returns-2 : tie.Need-returns-2
 unfolding meetsOf if_then_else_
 returns-2 c = search tests

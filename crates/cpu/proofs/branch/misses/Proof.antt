@@ -1,17 +1,14 @@
-use borrow.Author.Needs.{needs}
 use mathlib.Core.Path.{_∙_, sym}
+use borrow.Author.Needs.{needs}
 use Rattle.cpu.proofs.branch.misses.Statement.{statement}
 use Rattle.cpu.proofs.branch.misses.Tie as tie
 
--- src/branch.rt:32:8
 meets-requires : tie.Need-meets-requires
 meets-requires c κs = search needs
 
--- src/branch.rt:29:1
 returns : tie.Need-returns
 returns c = rw (sym (c .before .meets .ensures) ∙ c .if1 .taken)
 
--- src/branch.rt:29:1
 returns-2 : tie.Need-returns-2
 returns-2 c = rw (sym (c .before .meets .ensures) ∙ c .if1 .left)
 

@@ -1,39 +1,31 @@
 use Rattle.cpu.specs.Branch.{returnEnableOf}
 use Rattle.cpu.specs.Choice.{if_then_else_}
-use borrow.Author.Needs.{needs}
 use mathlib.Core.Path.{_∙_, sym}
+use borrow.Author.Needs.{needs}
 use Rattle.cpu.proofs.branch.return_enable.Statement.{statement}
 use Rattle.cpu.proofs.branch.return_enable.Tie as tie
 
--- src/branch.rt:232:14
 psl-requires : tie.Need-psl-requires
 psl-requires c κs = search needs
 
--- src/branch.rt:232:8
 meets-requires : tie.Need-meets-requires
 meets-requires c κs = search needs
 
--- src/branch.rt:233:13
 ret-requires : tie.Need-ret-requires
 ret-requires c κs = search needs
 
--- src/branch.rt:234:13
 enabled-requires : tie.Need-enabled-requires
 enabled-requires c κs = search needs
 
--- src/branch.rt:235:9
 going-requires : tie.Need-going-requires
 going-requires c κs = search needs
 
--- src/branch.rt:237:13
 advanced-requires : tie.Need-advanced-requires
 advanced-requires c κs = search needs
 
--- src/branch.rt:238:9
 going-requires-2 : tie.Need-going-requires-2
 going-requires-2 c κs = search needs
 
--- src/branch.rt:229:1
 returns : tie.Need-returns
 unfolding returnEnableOf if_then_else_
 returns c =
@@ -45,7 +37,6 @@ returns c =
       ← c .going .ensures,
     )
 
--- src/branch.rt:229:1
 returns-2 : tie.Need-returns-2
 unfolding returnEnableOf if_then_else_
 returns-2 c =

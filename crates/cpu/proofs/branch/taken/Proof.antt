@@ -3,87 +3,66 @@ use borrow.Author.Needs.{needs}
 use Rattle.cpu.proofs.branch.taken.Statement.{statement}
 use Rattle.cpu.proofs.branch.taken.Tie as tie
 
--- src/branch.rt:75:28
 enum-told : tie.Need-enum-told
 enum-told c = search needs
 
--- src/branch.rt:75:28
 psl-requires : tie.Need-psl-requires
 psl-requires c κs = search needs
 
--- src/branch.rt:75:22
 meets-requires : tie.Need-meets-requires
 meets-requires c κs = search needs
 
--- src/branch.rt:76:29
 enum-told-2 : tie.Need-enum-told-2
 enum-told-2 c = search needs
 
--- src/branch.rt:76:29
 psl-requires-2 : tie.Need-psl-requires-2
 psl-requires-2 c κs = search needs
 
--- src/branch.rt:76:22
 misses-requires : tie.Need-misses-requires
 misses-requires c κs = search needs
 
--- src/branch.rt:77:22
 enum-told-3 : tie.Need-enum-told-3
 enum-told-3 c = search needs
 
--- src/branch.rt:77:22
 not-zero-requires : tie.Need-not-zero-requires
 not-zero-requires c κs = search needs
 
--- src/branch.rt:78:22
 enum-told-4 : tie.Need-enum-told-4
 enum-told-4 c = search needs
 
--- src/branch.rt:78:22
 not-zero-requires-2 : tie.Need-not-zero-requires-2
 not-zero-requires-2 c κs = search needs
 
--- src/branch.rt:79:22
 enum-told-5 : tie.Need-enum-told-5
 enum-told-5 c = search needs
 
--- src/branch.rt:79:22
 not-zero-requires-3 : tie.Need-not-zero-requires-3
 not-zero-requires-3 c κs = search needs
 
--- src/branch.rt:80:28
 enum-told-6 : tie.Need-enum-told-6
 enum-told-6 c = search needs
 
--- src/branch.rt:80:28
 psl-requires-3 : tie.Need-psl-requires-3
 psl-requires-3 c κs = search needs
 
--- src/branch.rt:80:22
 meets-requires-2 : tie.Need-meets-requires-2
 meets-requires-2 c κs = search needs
 
--- src/branch.rt:81:29
 enum-told-7 : tie.Need-enum-told-7
 enum-told-7 c = search needs
 
--- src/branch.rt:81:29
 psl-requires-4 : tie.Need-psl-requires-4
 psl-requires-4 c κs = search needs
 
--- src/branch.rt:81:22
 misses-requires-2 : tie.Need-misses-requires-2
 misses-requires-2 c κs = search needs
 
--- src/branch.rt:82:22
 enum-told-8 : tie.Need-enum-told-8
 enum-told-8 c = search needs
 
--- src/branch.rt:82:22
 not-zero-requires-4 : tie.Need-not-zero-requires-4
 not-zero-requires-4 c κs = search needs
 
--- src/branch.rt:70:1
 returns : tie.Need-returns
 unfolding takenOf
 returns c =
@@ -93,7 +72,6 @@ returns c =
       ← c .meets .ensures,
     )
 
--- src/branch.rt:70:1
 returns-2 : tie.Need-returns-2
 unfolding takenOf
 returns-2 c =
@@ -103,7 +81,6 @@ returns-2 c =
       ← c .misses .ensures,
     )
 
--- src/branch.rt:70:1
 returns-3 : tie.Need-returns-3
 unfolding takenOf
 returns-3 c =
@@ -112,7 +89,6 @@ returns-3 c =
       ← c .not-zero .ensures,
     )
 
--- src/branch.rt:70:1
 returns-4 : tie.Need-returns-4
 unfolding takenOf
 returns-4 c =
@@ -121,7 +97,6 @@ returns-4 c =
       ← c .not-zero2 .ensures,
     )
 
--- src/branch.rt:70:1
 returns-5 : tie.Need-returns-5
 unfolding takenOf
 returns-5 c =
@@ -130,7 +105,6 @@ returns-5 c =
       ← c .not-zero3 .ensures,
     )
 
--- src/branch.rt:70:1
 returns-6 : tie.Need-returns-6
 unfolding takenOf
 returns-6 c =
@@ -140,7 +114,6 @@ returns-6 c =
       ← c .meets2 .ensures,
     )
 
--- src/branch.rt:70:1
 returns-7 : tie.Need-returns-7
 unfolding takenOf
 returns-7 c =
@@ -150,7 +123,6 @@ returns-7 c =
       ← c .misses2 .ensures,
     )
 
--- src/branch.rt:70:1
 returns-8 : tie.Need-returns-8
 unfolding takenOf
 returns-8 c =

@@ -1,31 +1,25 @@
 use Rattle.cpu.specs.Address.{withAddress, withByte}
 use Rattle.cpu.specs.Branch.{zeroBranchOf}
-use borrow.Author.Needs.{needs}
 use mathlib.Core.Path.{_∙_, sym}
+use borrow.Author.Needs.{needs}
 use Rattle.cpu.proofs.branch.zero_branch.Statement.{statement}
 use Rattle.cpu.proofs.branch.zero_branch.Tie as tie
 
--- src/branch.rt:177:9
 after-requires : tie.Need-after-requires
 after-requires c κs = search needs
 
--- src/branch.rt:178:28
 fetch-requires : tie.Need-fetch-requires
 fetch-requires c κs = search needs
 
--- src/branch.rt:178:23
 enum-known-b : tie.Need-enum-known-b
 enum-known-b c = search needs
 
--- src/branch.rt:179:9
 enum-told : tie.Need-enum-told
 enum-told c = search needs
 
--- src/branch.rt:179:9
 stopped-requires : tie.Need-stopped-requires
 stopped-requires c κs = search needs
 
--- src/branch.rt:179:9
 returns : tie.Need-returns
 unfolding zeroBranchOf withByte withAddress
 returns c =
@@ -35,27 +29,21 @@ returns c =
       ← c .stopped .ensures,
     )
 
--- src/branch.rt:181:9
 relative-requires : tie.Need-relative-requires
 relative-requires c κs = search needs
 
--- src/branch.rt:182:26
 through-requires : tie.Need-through-requires
 through-requires c κs = search needs
 
--- src/branch.rt:182:21
 enum-known-t : tie.Need-enum-known-t
 enum-known-t c = search needs
 
--- src/branch.rt:183:9
 enum-told-2 : tie.Need-enum-told-2
 enum-told-2 c = search needs
 
--- src/branch.rt:183:9
 stopped-requires-2 : tie.Need-stopped-requires-2
 stopped-requires-2 c κs = search needs
 
--- src/branch.rt:183:9
 returns-2 : tie.Need-returns-2
 unfolding zeroBranchOf withByte withAddress
 returns-2 c =
@@ -67,15 +55,12 @@ returns-2 c =
       ← c .stopped2 .ensures,
     )
 
--- src/branch.rt:185:9
 after-requires-2 : tie.Need-after-requires-2
 after-requires-2 c κs = search needs
 
--- src/branch.rt:186:5
 jumped-requires : tie.Need-jumped-requires
 jumped-requires c κs = search needs
 
--- src/branch.rt:174:1
 returns-3 : tie.Need-returns-3
 unfolding zeroBranchOf withByte withAddress
 returns-3 c =

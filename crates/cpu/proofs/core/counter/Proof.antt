@@ -1,15 +1,13 @@
 use Rattle.cpu.specs.Core.{cpuOf}
 use Rattle.cpu.specs.State.{counterOf}
-use borrow.Author.Needs.{needs}
 use mathlib.Core.Path.{refl}
+use borrow.Author.Needs.{needs}
 use Rattle.cpu.proofs.core.counter.Statement.{statement}
 use Rattle.cpu.proofs.core.counter.Tie as tie
 
--- src/core.rt:57:13
 cast-t3 : tie.Need-cast-t3
 cast-t3 c = search needs
 
--- src/core.rt:54:1
 returns : tie.Need-returns
 unfolding counterOf cpuOf
 returns c = refl

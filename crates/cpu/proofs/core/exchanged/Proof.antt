@@ -3,23 +3,18 @@ use borrow.Author.Needs.{needs}
 use Rattle.cpu.proofs.core.exchanged.Statement.{statement}
 use Rattle.cpu.proofs.core.exchanged.Tie as tie
 
--- src/core.rt:118:15
 mul-result : tie.Need-mul-result
 mul-result c = search needs
 
--- src/core.rt:118:5
 add-result : tie.Need-add-result
 add-result c = search needs
 
--- src/core.rt:118:49
 mul-result-2 : tie.Need-mul-result-2
 mul-result-2 c = search needs
 
--- src/core.rt:118:5
 add-result-2 : tie.Need-add-result-2
 add-result-2 c = search needs
 
--- src/core.rt:115:1
 returns : tie.Need-returns
 returns c = exchanged-law _
 

@@ -1,95 +1,73 @@
 use Rattle.cpu.proofs.Registers.{list-eight, list-seven, packed, quarters-of}
-use borrow.Author.Needs.{needs}
 use lib.ListN.{length, length-map}
 use mathlib.Core.Path.{_∙_, _≡_, refl, sym}
+use borrow.Author.Needs.{needs}
 use Rattle.cpu.proofs.core.pack.Statement.{statement}
 use Rattle.cpu.proofs.core.pack.Tie as tie
 
--- src/core.rt:197:27
 element-copy-out-seven : tie.Need-element-copy-out-seven
 element-copy-out-seven c = search needs
 
--- src/core.rt:197:43
 element-copy-out-seven-2 : tie.Need-element-copy-out-seven-2
 element-copy-out-seven-2 c = search needs
 
--- src/core.rt:197:59
 element-copy-out-seven-3 : tie.Need-element-copy-out-seven-3
 element-copy-out-seven-3 c = search needs
 
--- src/core.rt:197:75
 element-copy-out-seven-4 : tie.Need-element-copy-out-seven-4
 element-copy-out-seven-4 c = search needs
 
--- src/core.rt:197:91
 element-copy-out-seven-5 : tie.Need-element-copy-out-seven-5
 element-copy-out-seven-5 c = search needs
 
--- src/core.rt:197:107
 element-copy-out-seven-6 : tie.Need-element-copy-out-seven-6
 element-copy-out-seven-6 c = search needs
 
--- src/core.rt:197:123
 element-copy-out-seven-7 : tie.Need-element-copy-out-seven-7
 element-copy-out-seven-7 c = search needs
 
--- src/core.rt:197:9
 seven-requires : tie.Need-seven-requires
 seven-requires c κs = search needs
 
--- src/core.rt:198:20
 element-copy-out-four : tie.Need-element-copy-out-four
 element-copy-out-four c = search needs
 
--- src/core.rt:198:34
 element-copy-out-four-2 : tie.Need-element-copy-out-four-2
 element-copy-out-four-2 c = search needs
 
--- src/core.rt:198:48
 element-copy-out-four-3 : tie.Need-element-copy-out-four-3
 element-copy-out-four-3 c = search needs
 
--- src/core.rt:198:62
 element-copy-out-four-4 : tie.Need-element-copy-out-four-4
 element-copy-out-four-4 c = search needs
 
--- src/core.rt:198:9
 four-requires : tie.Need-four-requires
 four-requires c κs = search needs
 
--- src/core.rt:199:21
 element-copy-out-four-5 : tie.Need-element-copy-out-four-5
 element-copy-out-four-5 c = search needs
 
--- src/core.rt:199:35
 element-copy-out-four-6 : tie.Need-element-copy-out-four-6
 element-copy-out-four-6 c = search needs
 
--- src/core.rt:199:49
 element-copy-out-four-7 : tie.Need-element-copy-out-four-7
 element-copy-out-four-7 c = search needs
 
--- src/core.rt:199:63
 element-copy-out-four-8 : tie.Need-element-copy-out-four-8
 element-copy-out-four-8 c = search needs
 
--- src/core.rt:199:9
 four-requires-2 : tie.Need-four-requires-2
 four-requires-2 c κs = search needs
 
--- src/core.rt:208:9
 with-counter-requires : tie.Need-with-counter-requires
 with-counter-requires c κs = search needs
 
--- src/core.rt:209:9
 with-psu-requires : tie.Need-with-psu-requires
 with-psu-requires c κs = search needs
 
--- src/core.rt:210:5
 with-psl-requires : tie.Need-with-psl-requires
 with-psl-requires c κs = search needs
 
--- src/core.rt:194:1
 returns : tie.Need-returns
 returns c = let start = c .before .before .before .before .before .before .before .before .before .before .before .before .before .before .before .before .before .before .before .before .before in
     let m = start .args .t1 in

@@ -1,15 +1,13 @@
 use Rattle.cpu.specs.Core.{cpuOf}
 use Rattle.cpu.specs.State.{psuOf}
-use borrow.Author.Needs.{needs}
 use mathlib.Core.Path.{refl}
+use borrow.Author.Needs.{needs}
 use Rattle.cpu.proofs.core.psu.Statement.{statement}
 use Rattle.cpu.proofs.core.psu.Tie as tie
 
--- src/core.rt:63:5
 cast-result : tie.Need-cast-result
 cast-result c = search needs
 
--- src/core.rt:60:1
 returns : tie.Need-returns
 unfolding psuOf cpuOf
 returns c = refl

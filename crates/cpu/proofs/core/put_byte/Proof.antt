@@ -3,19 +3,15 @@ use borrow.Author.Needs.{needs}
 use Rattle.cpu.proofs.core.put_byte.Statement.{statement}
 use Rattle.cpu.proofs.core.put_byte.Tie as tie
 
--- src/core.rt:33:13
 mul-k : tie.Need-mul-k
 mul-k c = search needs
 
--- src/core.rt:34:16
 shr-old : tie.Need-shr-old
 shr-old c = search needs
 
--- src/core.rt:35:10
 shl-result : tie.Need-shl-result
 shl-result c = search needs
 
--- src/core.rt:29:1
 returns : tie.Need-returns
 returns c = put-byte-law _ _ _ (c .pre) (c .fits .v .fits)
 

@@ -1,17 +1,15 @@
 use Rattle.cpu.proofs.Registers.{get-register}
 use Rattle.cpu.specs.Core.{cpuOf}
 use Rattle.cpu.specs.State.{pslOf, registerOf}
-use borrow.Author.Needs.{needs}
 use mathlib.Core.Path.{_∙_}
 use native.Mathlib.Omega.{arith}
+use borrow.Author.Needs.{needs}
 use Rattle.cpu.proofs.core.register.Statement.{statement}
 use Rattle.cpu.proofs.core.register.Tie as tie
 
--- src/core.rt:76:5
 byte-at-requires : tie.Need-byte-at-requires
 byte-at-requires c κs = search needs
 
--- src/core.rt:72:1
 returns : tie.Need-returns
 unfolding registerOf pslOf cpuOf
 returns c = c .byte-at .ensures ∙ get-register _ _ _ (omega arith) (c .before .pre)

@@ -3,35 +3,27 @@ use borrow.Author.Needs.{needs}
 use Rattle.cpu.proofs.core.ret.Statement.{statement}
 use Rattle.cpu.proofs.core.ret.Tie as tie
 
--- src/core.rt:171:9
 psu-requires : tie.Need-psu-requires
 psu-requires c κs = search needs
 
--- src/core.rt:173:9
 saved-requires : tie.Need-saved-requires
 saved-requires c κs = search needs
 
--- src/core.rt:174:9
 with-counter-requires : tie.Need-with-counter-requires
 with-counter-requires c κs = search needs
 
--- src/core.rt:175:17
 mul-with-psu : tie.Need-mul-with-psu
 mul-with-psu c = search needs
 
--- src/core.rt:175:30
 add-with-psu : tie.Need-add-with-psu
 add-with-psu c = search needs
 
--- src/core.rt:175:17
 add-with-psu-2 : tie.Need-add-with-psu-2
 add-with-psu-2 c = search needs
 
--- src/core.rt:175:5
 with-psu-requires : tie.Need-with-psu-requires
 with-psu-requires c κs = search needs
 
--- src/core.rt:168:1
 returns : tie.Need-returns
 unfolding returnedOf
 returns c =

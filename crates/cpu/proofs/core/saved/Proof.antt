@@ -5,29 +5,22 @@ use borrow.Author.Needs.{needs}
 use Rattle.cpu.proofs.core.saved.Statement.{statement}
 use Rattle.cpu.proofs.core.saved.Tie as tie
 
--- src/core.rt:139:17
 quarter-at-requires : tie.Need-quarter-at-requires
 quarter-at-requires c κs = search needs
 
--- src/core.rt:141:36
 cast-quarter-at : tie.Need-cast-quarter-at
 cast-quarter-at c = search needs
 
--- src/core.rt:141:17
 quarter-at-requires-2 : tie.Need-quarter-at-requires-2
 quarter-at-requires-2 c κs = search needs
 
--- src/core.rt:134:1
 returns : tie.Need-returns
 unfolding returnOf cpuOf
 returns c = rw (← get-low _ _ _ (c .before .if1 .taken), ← c .quarter-at .ensures)
 
--- src/core.rt:134:1
 returns-2 : tie.Need-returns-2
 unfolding returnOf cpuOf
 returns-2 c = rw (← get-high _ _ _ (c .before .if1 .left) (c .before .before .pre), ← c .quarter-at2 .ensures)
 
 pub saved-spec : {M : Type 1} → statement M
-saved-spec =
-    tie.close
-    (tie.spec quarter-at-requires cast-quarter-at quarter-at-requires-2 returns returns-2)
+saved-spec = tie.close (tie.spec quarter-at-requires cast-quarter-at quarter-at-requires-2 returns returns-2)

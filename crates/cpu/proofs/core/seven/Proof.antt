@@ -3,55 +3,42 @@ use borrow.Author.Needs.{needs}
 use Rattle.cpu.proofs.core.seven.Statement.{statement}
 use Rattle.cpu.proofs.core.seven.Tie as tie
 
--- src/core.rt:181:16
 mul-result : tie.Need-mul-result
 mul-result c = search needs
 
--- src/core.rt:181:5
 add-result : tie.Need-add-result
 add-result c = search needs
 
--- src/core.rt:181:33
 mul-result-2 : tie.Need-mul-result-2
 mul-result-2 c = search needs
 
--- src/core.rt:181:5
 add-result-2 : tie.Need-add-result-2
 add-result-2 c = search needs
 
--- src/core.rt:181:52
 mul-result-3 : tie.Need-mul-result-3
 mul-result-3 c = search needs
 
--- src/core.rt:181:5
 add-result-3 : tie.Need-add-result-3
 add-result-3 c = search needs
 
--- src/core.rt:181:74
 mul-result-4 : tie.Need-mul-result-4
 mul-result-4 c = search needs
 
--- src/core.rt:181:5
 add-result-4 : tie.Need-add-result-4
 add-result-4 c = search needs
 
--- src/core.rt:181:98
 mul-result-5 : tie.Need-mul-result-5
 mul-result-5 c = search needs
 
--- src/core.rt:181:5
 add-result-5 : tie.Need-add-result-5
 add-result-5 c = search needs
 
--- src/core.rt:181:125
 mul-result-6 : tie.Need-mul-result-6
 mul-result-6 c = search needs
 
--- src/core.rt:181:5
 add-result-6 : tie.Need-add-result-6
 add-result-6 c = search needs
 
--- src/core.rt:178:1
 returns : tie.Need-returns
 returns c = bytes-of _ _ _ _ _ _ _ (c .fits .a .fits) (c .fits .b .fits) (c .fits .c .fits) (c .fits .d .fits) (c .fits .e .fits) (c .fits .f .fits) (c .fits .g .fits)
 

@@ -1,17 +1,15 @@
 use Prim.Native.Nat.{_%_}
 use Rattle.cpu.specs.Core.{cpuOf}
 use Rattle.cpu.specs.State.{withCounter}
-use borrow.Author.Needs.{needs}
 use mathlib.Core.Path.{_≡_}
 use native.Mathlib.Omega.{arith}
+use borrow.Author.Needs.{needs}
 use Rattle.cpu.proofs.core.with_counter.Statement.{statement}
 use Rattle.cpu.proofs.core.with_counter.Tie as tie
 
--- src/core.rt:92:20
 cast-next : tie.Need-cast-next
 cast-next c = search needs
 
--- src/core.rt:88:1
 returns : tie.Need-returns
 unfolding withCounter cpuOf
 returns c = let l = c .struct-known .given in let e : c .before .args .a .0 % 65536 ≡ c .before .args .a .0 = omega arith in rw (e)

@@ -2,34 +2,28 @@ use Prim.Native.Nat.{_%_, _/_}
 use Rattle.cpu.proofs.Registers.{exchange}
 use Rattle.cpu.specs.Core.{cpuOf}
 use Rattle.cpu.specs.State.{bitRS, pslOf, withPsl}
-use borrow.Author.Needs.{needs}
 use mathlib.Core.Path.{_∙_, _≡_, ap, sym}
 use native.Mathlib.Omega.{arith}
+use borrow.Author.Needs.{needs}
 use Rattle.cpu.proofs.core.with_psl.Statement.{statement}
 use Rattle.cpu.proofs.core.with_psl.Tie as tie
 
--- src/core.rt:124:9
 psl-requires : tie.Need-psl-requires
 psl-requires c κs = search needs
 
--- src/core.rt:126:9
 with-result-requires : tie.Need-with-result-requires
 with-result-requires c κs = c .if1 .taken ∙ ap bitRS (c .before .psl .ensures)
 
--- src/core.rt:126:9
 returns : tie.Need-returns
 returns c = c .with-result .ensures
 
--- src/core.rt:129:5
 exchanged-requires : tie.Need-exchanged-requires
 exchanged-requires c κs = search needs
 
--- src/core.rt:121:1
 returns-2 : tie.Need-returns-2
 unfolding withPsl pslOf cpuOf
 returns-2 c = let l = c .before .before .before .fits .p .fits in let m = c .before .before .before .args .m in let p = c .before .before .before .args .p in let e : p % 256 ≡ p = omega arith in
     rw (e, c .exchanged .ensures, exchange (m .psl % 256 / 16 % 2) (p / 16 % 2) (m .registers) (omega arith) (omega arith) (λ h. c .before .if1 .left (h ∙ ap bitRS (sym (c .before .before .psl .ensures)))))
 
 pub with-psl-spec : {M : Type 1} → statement M
-with-psl-spec =
-    tie.close (tie.spec psl-requires with-result-requires returns exchanged-requires returns-2)
+with-psl-spec = tie.close (tie.spec psl-requires with-result-requires returns exchanged-requires returns-2)

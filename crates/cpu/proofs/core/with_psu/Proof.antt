@@ -6,7 +6,6 @@ use native.Mathlib.Omega.{arith}
 use Rattle.cpu.proofs.core.with_psu.Statement.{statement}
 use Rattle.cpu.proofs.core.with_psu.Tie as tie
 
--- src/core.rt:96:1
 returns : tie.Need-returns
 unfolding withPsu cpuOf
 returns c = let l = c .fits .p .fits in let e : c .args .p % 256 ≡ c .args .p = omega arith in rw (e)

@@ -2,16 +2,14 @@ use Prim.Native.Nat.{_%_, _/_}
 use Rattle.cpu.proofs.Registers.{set-register}
 use Rattle.cpu.specs.Core.{cpuOf}
 use Rattle.cpu.specs.State.{pslOf, withRegister}
-use borrow.Author.Needs.{needs}
 use native.Mathlib.Omega.{arith}
+use borrow.Author.Needs.{needs}
 use Rattle.cpu.proofs.core.with_register.Statement.{statement}
 use Rattle.cpu.proofs.core.with_register.Tie as tie
 
--- src/core.rt:84:5
 put-byte-requires : tie.Need-put-byte-requires
 put-byte-requires c κs = search needs
 
--- src/core.rt:79:1
 returns : tie.Need-returns
 unfolding withRegister pslOf cpuOf
 returns c = rw (c .put-byte .ensures, set-register (c .before .args .m .psl % 256 / 16 % 2) _ _ _ (omega arith) (c .before .pre) (c .before .fits .v .fits))

@@ -4,12 +4,10 @@ use Rattle.cpu.specs.Decode.{firstOf}
 use Rattle.cpu.proofs.decode.first.Statement.{statement}
 use Rattle.cpu.proofs.decode.first.Tie as tie
 
--- src/decode.rt:95:1
 returns : tie.Need-returns
 unfolding firstOf if_then_else_
 returns c = search tests
 
--- src/decode.rt:95:1
 returns-2 : tie.Need-returns-2
 unfolding firstOf if_then_else_
 returns-2 c = search tests

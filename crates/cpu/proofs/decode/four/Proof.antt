@@ -4,22 +4,18 @@ use Rattle.cpu.specs.Decode.{fourOf}
 use Rattle.cpu.proofs.decode.four.Statement.{statement}
 use Rattle.cpu.proofs.decode.four.Tie as tie
 
--- src/decode.rt:81:1
 returns : tie.Need-returns
 unfolding fourOf if_then_else_
 returns c = search tests
 
--- src/decode.rt:81:1
 returns-2 : tie.Need-returns-2
 unfolding fourOf if_then_else_
 returns-2 c = search tests
 
--- src/decode.rt:81:1
 returns-3 : tie.Need-returns-3
 unfolding fourOf if_then_else_
 returns-3 c = search tests
 
--- src/decode.rt:81:1
 returns-4 : tie.Need-returns-4
 unfolding fourOf if_then_else_
 returns-4 c = search tests

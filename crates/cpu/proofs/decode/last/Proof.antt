@@ -4,12 +4,10 @@ use Rattle.cpu.specs.Decode.{lastOf}
 use Rattle.cpu.proofs.decode.last.Statement.{statement}
 use Rattle.cpu.proofs.decode.last.Tie as tie
 
--- src/decode.rt:101:1
 returns : tie.Need-returns
 unfolding lastOf if_then_else_
 returns c = search tests
 
--- src/decode.rt:101:1
 returns-2 : tie.Need-returns-2
 unfolding lastOf if_then_else_
 returns-2 c = search tests

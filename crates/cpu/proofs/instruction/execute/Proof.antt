@@ -4,355 +4,267 @@ use borrow.Author.Needs.{needs}
 use Rattle.cpu.proofs.instruction.execute.Statement.{statement}
 use Rattle.cpu.proofs.instruction.execute.Tie as tie
 
--- src/instruction.rt:26:33
 enum-told : tie.Need-enum-told
 enum-told c = search needs
 
--- src/instruction.rt:26:33
 stopped-requires : tie.Need-stopped-requires
 stopped-requires c κs = search needs
 
--- src/instruction.rt:27:36
 enum-told-2 : tie.Need-enum-told-2
 enum-told-2 c = search needs
 
--- src/instruction.rt:27:36
 stopped-requires-2 : tie.Need-stopped-requires-2
 stopped-requires-2 c κs = search needs
 
--- src/instruction.rt:28:30
 enum-known-i : tie.Need-enum-known-i
 enum-known-i c = search needs
 
--- src/instruction.rt:28:46
 with-operand-requires : tie.Need-with-operand-requires
 with-operand-requires c κs = search needs
 
--- src/instruction.rt:30:17
 enum-told-3 : tie.Need-enum-told-3
 enum-told-3 c = search needs
 
--- src/instruction.rt:30:17
 register-requires : tie.Need-register-requires
 register-requires c κs = search needs
 
--- src/instruction.rt:31:33
 psl-requires : tie.Need-psl-requires
 psl-requires c κs = search needs
 
--- src/instruction.rt:31:17
 loaded-requires : tie.Need-loaded-requires
 loaded-requires c κs = search needs
 
--- src/instruction.rt:32:13
 changed-requires : tie.Need-changed-requires
 changed-requires c κs = search needs
 
--- src/instruction.rt:35:17
 enum-told-4 : tie.Need-enum-told-4
 enum-told-4 c = search needs
 
--- src/instruction.rt:35:17
 advanced-requires : tie.Need-advanced-requires
 advanced-requires c κs = search needs
 
--- src/instruction.rt:36:13
 going-requires : tie.Need-going-requires
 going-requires c κs = search needs
 
--- src/instruction.rt:39:17
 enum-told-5 : tie.Need-enum-told-5
 enum-told-5 c = search needs
 
--- src/instruction.rt:39:17
 advanced-requires-2 : tie.Need-advanced-requires-2
 advanced-requires-2 c κs = search needs
 
--- src/instruction.rt:40:13
 ended-requires : tie.Need-ended-requires
 ended-requires c κs = search needs
 
--- src/instruction.rt:43:17
 enum-told-6 : tie.Need-enum-told-6
 enum-told-6 c = search needs
 
--- src/instruction.rt:43:17
 sensed-requires : tie.Need-sensed-requires
 sensed-requires c κs = search needs
 
--- src/instruction.rt:44:33
 psl-requires-2 : tie.Need-psl-requires-2
 psl-requires-2 c κs = search needs
 
--- src/instruction.rt:44:17
 loaded-requires-2 : tie.Need-loaded-requires-2
 loaded-requires-2 c κs = search needs
 
--- src/instruction.rt:45:13
 changed-requires-2 : tie.Need-changed-requires-2
 changed-requires-2 c κs = search needs
 
--- src/instruction.rt:48:17
 enum-told-7 : tie.Need-enum-told-7
 enum-told-7 c = search needs
 
--- src/instruction.rt:48:17
 psl-requires-3 : tie.Need-psl-requires-3
 psl-requires-3 c κs = search needs
 
--- src/instruction.rt:49:17
 loaded-requires-3 : tie.Need-loaded-requires-3
 loaded-requires-3 c κs = search needs
 
--- src/instruction.rt:50:13
 changed-requires-3 : tie.Need-changed-requires-3
 changed-requires-3 c κs = search needs
 
--- src/instruction.rt:53:17
 enum-told-8 : tie.Need-enum-told-8
 enum-told-8 c = search needs
 
--- src/instruction.rt:53:17
 register-requires-2 : tie.Need-register-requires-2
 register-requires-2 c κs = search needs
 
--- src/instruction.rt:54:39
 stored-requires : tie.Need-stored-requires
 stored-requires c κs = search needs
 
--- src/instruction.rt:54:17
 with-psu-requires : tie.Need-with-psu-requires
 with-psu-requires c κs = search needs
 
--- src/instruction.rt:55:17
 advanced-requires-3 : tie.Need-advanced-requires-3
 advanced-requires-3 c κs = search needs
 
--- src/instruction.rt:56:13
 going-requires-2 : tie.Need-going-requires-2
 going-requires-2 c κs = search needs
 
--- src/instruction.rt:59:17
 enum-told-9 : tie.Need-enum-told-9
 enum-told-9 c = search needs
 
--- src/instruction.rt:59:17
 register-requires-3 : tie.Need-register-requires-3
 register-requires-3 c κs = search needs
 
--- src/instruction.rt:60:17
 with-psl-requires : tie.Need-with-psl-requires
 with-psl-requires c κs = search needs
 
--- src/instruction.rt:61:17
 advanced-requires-4 : tie.Need-advanced-requires-4
 advanced-requires-4 c κs = search needs
 
--- src/instruction.rt:62:13
 going-requires-3 : tie.Need-going-requires-3
 going-requires-3 c κs = search needs
 
--- src/instruction.rt:64:30
 enum-told-10 : tie.Need-enum-told-10
 enum-told-10 c = search needs
 
--- src/instruction.rt:64:30
 clear-psu-requires : tie.Need-clear-psu-requires
 clear-psu-requires c κs = search needs
 
--- src/instruction.rt:65:30
 enum-told-11 : tie.Need-enum-told-11
 enum-told-11 c = search needs
 
--- src/instruction.rt:65:30
 clear-psl-requires : tie.Need-clear-psl-requires
 clear-psl-requires c κs = search needs
 
--- src/instruction.rt:66:30
 enum-told-12 : tie.Need-enum-told-12
 enum-told-12 c = search needs
 
--- src/instruction.rt:66:30
 preset-psu-requires : tie.Need-preset-psu-requires
 preset-psu-requires c κs = search needs
 
--- src/instruction.rt:67:30
 enum-told-13 : tie.Need-enum-told-13
 enum-told-13 c = search needs
 
--- src/instruction.rt:67:30
 preset-psl-requires : tie.Need-preset-psl-requires
 preset-psl-requires c κs = search needs
 
--- src/instruction.rt:69:17
 enum-told-14 : tie.Need-enum-told-14
 enum-told-14 c = search needs
 
--- src/instruction.rt:69:17
 sensed-requires-2 : tie.Need-sensed-requires-2
 sensed-requires-2 c κs = search needs
 
--- src/instruction.rt:70:13
 tested-requires : tie.Need-tested-requires
 tested-requires c κs = search needs
 
--- src/instruction.rt:73:17
 enum-told-15 : tie.Need-enum-told-15
 enum-told-15 c = search needs
 
--- src/instruction.rt:73:17
 psl-requires-4 : tie.Need-psl-requires-4
 psl-requires-4 c κs = search needs
 
--- src/instruction.rt:74:13
 tested-requires-2 : tie.Need-tested-requires-2
 tested-requires-2 c κs = search needs
 
--- src/instruction.rt:77:17
 enum-told-16 : tie.Need-enum-told-16
 enum-told-16 c = search needs
 
--- src/instruction.rt:77:17
 register-requires-4 : tie.Need-register-requires-4
 register-requires-4 c κs = search needs
 
--- src/instruction.rt:78:13
 tested-requires-3 : tie.Need-tested-requires-3
 tested-requires-3 c κs = search needs
 
--- src/instruction.rt:81:17
 enum-told-17 : tie.Need-enum-told-17
 enum-told-17 c = search needs
 
--- src/instruction.rt:81:17
 register-requires-5 : tie.Need-register-requires-5
 register-requires-5 c κs = search needs
 
--- src/instruction.rt:82:34
 psl-requires-5 : tie.Need-psl-requires-5
 psl-requires-5 c κs = search needs
 
--- src/instruction.rt:82:17
 decimal-requires : tie.Need-decimal-requires
 decimal-requires c κs = search needs
 
--- src/instruction.rt:83:13
 changed-requires-4 : tie.Need-changed-requires-4
 changed-requires-4 c κs = search needs
 
--- src/instruction.rt:86:17
 enum-told-18 : tie.Need-enum-told-18
 enum-told-18 c = search needs
 
--- src/instruction.rt:86:17
 register-requires-6 : tie.Need-register-requires-6
 register-requires-6 c κs = search needs
 
--- src/instruction.rt:87:39
 psl-requires-6 : tie.Need-psl-requires-6
 psl-requires-6 c κs = search needs
 
--- src/instruction.rt:87:17
 rotate-right-requires : tie.Need-rotate-right-requires
 rotate-right-requires c κs = search needs
 
--- src/instruction.rt:88:13
 changed-requires-5 : tie.Need-changed-requires-5
 changed-requires-5 c κs = search needs
 
--- src/instruction.rt:91:17
 enum-told-19 : tie.Need-enum-told-19
 enum-told-19 c = search needs
 
--- src/instruction.rt:91:17
 register-requires-7 : tie.Need-register-requires-7
 register-requires-7 c κs = search needs
 
--- src/instruction.rt:92:38
 psl-requires-7 : tie.Need-psl-requires-7
 psl-requires-7 c κs = search needs
 
--- src/instruction.rt:92:17
 rotate-left-requires : tie.Need-rotate-left-requires
 rotate-left-requires c κs = search needs
 
--- src/instruction.rt:93:13
 changed-requires-6 : tie.Need-changed-requires-6
 changed-requires-6 c κs = search needs
 
--- src/instruction.rt:95:30
 enum-told-20 : tie.Need-enum-told-20
 enum-told-20 c = search needs
 
--- src/instruction.rt:95:30
 read-requires : tie.Need-read-requires
 read-requires c κs = search needs
 
--- src/instruction.rt:96:30
 enum-told-21 : tie.Need-enum-told-21
 enum-told-21 c = search needs
 
--- src/instruction.rt:96:30
 write-requires : tie.Need-write-requires
 write-requires c κs = search needs
 
--- src/instruction.rt:97:30
 enum-told-22 : tie.Need-enum-told-22
 enum-told-22 c = search needs
 
--- src/instruction.rt:97:30
 return-if-requires : tie.Need-return-if-requires
 return-if-requires c κs = search needs
 
--- src/instruction.rt:98:30
 enum-told-23 : tie.Need-enum-told-23
 enum-told-23 c = search needs
 
--- src/instruction.rt:98:30
 return-enable-requires : tie.Need-return-enable-requires
 return-enable-requires c κs = search needs
 
--- src/instruction.rt:99:29
 enum-known-i-2 : tie.Need-enum-known-i-2
 enum-known-i-2 c = search needs
 
--- src/instruction.rt:99:45
 branch-requires : tie.Need-branch-requires
 branch-requires c κs = search needs
 
--- src/instruction.rt:100:30
 enum-told-24 : tie.Need-enum-told-24
 enum-told-24 c = search needs
 
--- src/instruction.rt:100:30
 zero-branch-requires : tie.Need-zero-branch-requires
 zero-branch-requires c κs = search needs
 
--- src/instruction.rt:101:30
 enum-told-25 : tie.Need-enum-told-25
 enum-told-25 c = search needs
 
--- src/instruction.rt:101:30
 zero-branch-requires-2 : tie.Need-zero-branch-requires-2
 zero-branch-requires-2 c κs = search needs
 
--- src/instruction.rt:102:29
 enum-told-26 : tie.Need-enum-told-26
 enum-told-26 c = search needs
 
--- src/instruction.rt:102:29
 indexed-branch-requires : tie.Need-indexed-branch-requires
 indexed-branch-requires c κs = search needs
 
--- src/instruction.rt:103:30
 enum-told-27 : tie.Need-enum-told-27
 enum-told-27 c = search needs
 
--- src/instruction.rt:103:30
 indexed-branch-requires-2 : tie.Need-indexed-branch-requires-2
 indexed-branch-requires-2 c κs = search needs
 
--- src/instruction.rt:21:1
 returns : tie.Need-returns
 unfolding executeOf offeredOf
 returns c =
@@ -361,7 +273,6 @@ returns c =
       ← c .stopped .ensures,
     )
 
--- src/instruction.rt:21:1
 returns-2 : tie.Need-returns-2
 unfolding executeOf offeredOf
 returns-2 c =
@@ -370,7 +281,6 @@ returns-2 c =
       ← c .stopped2 .ensures,
     )
 
--- src/instruction.rt:21:1
 returns-3 : tie.Need-returns-3
 unfolding executeOf offeredOf
 returns-3 c =
@@ -379,7 +289,6 @@ returns-3 c =
       ← c .with-operand .ensures,
     )
 
--- src/instruction.rt:21:1
 returns-4 : tie.Need-returns-4
 unfolding executeOf offeredOf
 returns-4 c =
@@ -391,7 +300,6 @@ returns-4 c =
       ← c .changed .ensures,
     )
 
--- src/instruction.rt:21:1
 returns-5 : tie.Need-returns-5
 unfolding executeOf offeredOf
 returns-5 c =
@@ -401,7 +309,6 @@ returns-5 c =
       ← c .going .ensures,
     )
 
--- src/instruction.rt:21:1
 returns-6 : tie.Need-returns-6
 unfolding executeOf offeredOf
 returns-6 c =
@@ -411,7 +318,6 @@ returns-6 c =
       ← c .ended .ensures,
     )
 
--- src/instruction.rt:21:1
 returns-7 : tie.Need-returns-7
 unfolding executeOf offeredOf
 returns-7 c =
@@ -423,7 +329,6 @@ returns-7 c =
       ← c .changed2 .ensures,
     )
 
--- src/instruction.rt:21:1
 returns-8 : tie.Need-returns-8
 unfolding executeOf offeredOf
 returns-8 c =
@@ -434,7 +339,6 @@ returns-8 c =
       ← c .changed3 .ensures,
     )
 
--- src/instruction.rt:21:1
 returns-9 : tie.Need-returns-9
 unfolding executeOf offeredOf
 returns-9 c =
@@ -447,7 +351,6 @@ returns-9 c =
       ← c .going2 .ensures,
     )
 
--- src/instruction.rt:21:1
 returns-10 : tie.Need-returns-10
 unfolding executeOf offeredOf
 returns-10 c =
@@ -459,7 +362,6 @@ returns-10 c =
       ← c .going3 .ensures,
     )
 
--- src/instruction.rt:21:1
 returns-11 : tie.Need-returns-11
 unfolding executeOf offeredOf
 returns-11 c =
@@ -468,7 +370,6 @@ returns-11 c =
       ← c .clear-psu .ensures,
     )
 
--- src/instruction.rt:21:1
 returns-12 : tie.Need-returns-12
 unfolding executeOf offeredOf
 returns-12 c =
@@ -477,7 +378,6 @@ returns-12 c =
       ← c .clear-psl .ensures,
     )
 
--- src/instruction.rt:21:1
 returns-13 : tie.Need-returns-13
 unfolding executeOf offeredOf
 returns-13 c =
@@ -486,7 +386,6 @@ returns-13 c =
       ← c .preset-psu .ensures,
     )
 
--- src/instruction.rt:21:1
 returns-14 : tie.Need-returns-14
 unfolding executeOf offeredOf
 returns-14 c =
@@ -495,7 +394,6 @@ returns-14 c =
       ← c .preset-psl .ensures,
     )
 
--- src/instruction.rt:21:1
 returns-15 : tie.Need-returns-15
 unfolding executeOf offeredOf
 returns-15 c =
@@ -505,7 +403,6 @@ returns-15 c =
       ← c .tested .ensures,
     )
 
--- src/instruction.rt:21:1
 returns-16 : tie.Need-returns-16
 unfolding executeOf offeredOf
 returns-16 c =
@@ -515,7 +412,6 @@ returns-16 c =
       ← c .tested2 .ensures,
     )
 
--- src/instruction.rt:21:1
 returns-17 : tie.Need-returns-17
 unfolding executeOf offeredOf
 returns-17 c =
@@ -525,7 +421,6 @@ returns-17 c =
       ← c .tested3 .ensures,
     )
 
--- src/instruction.rt:21:1
 returns-18 : tie.Need-returns-18
 unfolding executeOf offeredOf
 returns-18 c =
@@ -537,7 +432,6 @@ returns-18 c =
       ← c .changed4 .ensures,
     )
 
--- src/instruction.rt:21:1
 returns-19 : tie.Need-returns-19
 unfolding executeOf offeredOf
 returns-19 c =
@@ -549,7 +443,6 @@ returns-19 c =
       ← c .changed5 .ensures,
     )
 
--- src/instruction.rt:21:1
 returns-20 : tie.Need-returns-20
 unfolding executeOf offeredOf
 returns-20 c =
@@ -561,7 +454,6 @@ returns-20 c =
       ← c .changed6 .ensures,
     )
 
--- src/instruction.rt:21:1
 returns-21 : tie.Need-returns-21
 unfolding executeOf offeredOf
 returns-21 c =
@@ -570,7 +462,6 @@ returns-21 c =
       ← c .read .ensures,
     )
 
--- src/instruction.rt:21:1
 returns-22 : tie.Need-returns-22
 unfolding executeOf offeredOf
 returns-22 c =
@@ -579,7 +470,6 @@ returns-22 c =
       ← c .write .ensures,
     )
 
--- src/instruction.rt:21:1
 returns-23 : tie.Need-returns-23
 unfolding executeOf offeredOf
 returns-23 c =
@@ -588,7 +478,6 @@ returns-23 c =
       ← c .return-if .ensures,
     )
 
--- src/instruction.rt:21:1
 returns-24 : tie.Need-returns-24
 unfolding executeOf offeredOf
 returns-24 c =
@@ -597,7 +486,6 @@ returns-24 c =
       ← c .return-enable .ensures,
     )
 
--- src/instruction.rt:21:1
 returns-25 : tie.Need-returns-25
 unfolding executeOf offeredOf
 returns-25 c =
@@ -606,7 +494,6 @@ returns-25 c =
       ← c .branch .ensures,
     )
 
--- src/instruction.rt:21:1
 returns-26 : tie.Need-returns-26
 unfolding executeOf offeredOf
 returns-26 c =
@@ -615,7 +502,6 @@ returns-26 c =
       ← c .zero-branch .ensures,
     )
 
--- src/instruction.rt:21:1
 returns-27 : tie.Need-returns-27
 unfolding executeOf offeredOf
 returns-27 c =
@@ -624,7 +510,6 @@ returns-27 c =
       ← c .zero-branch2 .ensures,
     )
 
--- src/instruction.rt:21:1
 returns-28 : tie.Need-returns-28
 unfolding executeOf offeredOf
 returns-28 c =
@@ -633,7 +518,6 @@ returns-28 c =
       ← c .indexed-branch .ensures,
     )
 
--- src/instruction.rt:21:1
 returns-29 : tie.Need-returns-29
 unfolding executeOf offeredOf
 returns-29 c =

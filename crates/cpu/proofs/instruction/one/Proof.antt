@@ -1,31 +1,25 @@
 use Rattle.cpu.specs.Address.{withByte}
 use Rattle.cpu.specs.Instruction.{stepOf}
-use borrow.Author.Needs.{needs}
 use mathlib.Core.Path.{_∙_, sym}
+use borrow.Author.Needs.{needs}
 use Rattle.cpu.proofs.instruction.one.Statement.{statement}
 use Rattle.cpu.proofs.instruction.one.Tie as tie
 
--- src/instruction.rt:110:9
 counter-requires : tie.Need-counter-requires
 counter-requires c κs = search needs
 
--- src/instruction.rt:111:29
 fetch-requires : tie.Need-fetch-requires
 fetch-requires c κs = search needs
 
--- src/instruction.rt:111:23
 enum-known-op : tie.Need-enum-known-op
 enum-known-op c = search needs
 
--- src/instruction.rt:112:9
 enum-told : tie.Need-enum-told
 enum-told c = search needs
 
--- src/instruction.rt:112:9
 stopped-requires : tie.Need-stopped-requires
 stopped-requires c κs = search needs
 
--- src/instruction.rt:112:9
 returns : tie.Need-returns
 unfolding stepOf withByte
 returns c =
@@ -35,15 +29,12 @@ returns c =
       ← c .stopped .ensures,
     )
 
--- src/instruction.rt:114:9
 decode-requires : tie.Need-decode-requires
 decode-requires c κs = search needs
 
--- src/instruction.rt:115:5
 execute-requires : tie.Need-execute-requires
 execute-requires c κs = search needs
 
--- src/instruction.rt:107:1
 returns-2 : tie.Need-returns-2
 unfolding stepOf withByte
 returns-2 c =

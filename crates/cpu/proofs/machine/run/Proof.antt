@@ -4,7 +4,6 @@ use Rattle.cpu.specs.Core.{cpuOf}
 use Rattle.cpu.specs.Machine.{Machine, machineOf, machineStep, times}
 use Rattle.cpu.specs.Partition.{Parts, machineAt, settled}
 use Rattle.cpu.specs.Times.{times-add, times-rests, times-suc}
-use borrow.Author.Needs.{needs}
 use lib.ListN.{drop, length}
 use mathlib.Core.Logic.{⊎-elim}
 use mathlib.Core.Path.{_∙_, _≡_, ap, refl, subst, sym}
@@ -12,6 +11,7 @@ use native.Mathlib.Omega.{arith}
 use Rattle.cpu.specs.declared.machine.State.{State}
 use Rattle.cpu.specs.declared.partition.Positions.{Positions}
 use Rattle.cpu.specs.declared.state.Cpu.{Cpu}
+use borrow.Author.Needs.{needs}
 use Rattle.cpu.proofs.machine.run.Statement.{statement}
 use Rattle.cpu.proofs.machine.run.Tie as tie
 
@@ -21,28 +21,22 @@ Inv-loop state partition₀ steps b core₀ status₀ k₀ i₀ partition core s
 abbrev μ-loop : tie.MeasureT-loop
 μ-loop state partition₀ steps b core₀ status₀ k₀ i₀ partition core status k i = steps - i
 
--- src/machine.rt:29:9
 parted-requires : tie.Need-parted-requires Inv-loop μ-loop
 parted-requires c κs = search needs
 
--- src/machine.rt:30:9
 pack-requires : tie.Need-pack-requires Inv-loop μ-loop
 pack-requires c κs = search needs
 
--- src/machine.rt:33:15
 cast-t15 : tie.Need-cast-t15 Inv-loop μ-loop
 cast-t15 c = search needs
 
--- src/machine.rt:34:18
 cast-t16 : tie.Need-cast-t16 Inv-loop μ-loop
 cast-t16 c = search needs
 
--- src/machine.rt:37:5
 loop-holds : tie.Need-loop-holds Inv-loop μ-loop
 unfolding times
 loop-holds c = (omega arith, refl, search needs, search needs, refl, refl)
 
--- src/machine.rt:41:13
 advance-requires : tie.Need-advance-requires Inv-loop μ-loop
 advance-requires c κs = let here = c .before .before .before .loop in
     let start = c .before .before .before .before .before .before .before .parted in
@@ -50,7 +44,6 @@ advance-requires c κs = let here = c .before .before .before .loop in
     let x = parts-inside _ _ q in
     (x .first, (x .second, (x .input, (x .output, (here .inv .2, here .inv .3)))))
 
--- src/machine.rt:46:13
 settle-requires : tie.Need-settle-requires Inv-loop μ-loop
 settle-requires c κs = let here = c .before .before .before .before .before .before .loop in
     let start = c .before .before .before .before .before .before .before .before .before .before .parted in
@@ -58,15 +51,12 @@ settle-requires c κs = let here = c .before .before .before .before .before .be
     let x = parts-inside _ _ q in
     (x .first, (x .third, (x .output, (here .inv .2, here .inv .3))))
 
--- src/machine.rt:48:9
 add-i : tie.Need-add-i Inv-loop μ-loop
 add-i c = record { fits = omega (arith, c .before .before .before .before .before .before .before .before .before .before .before .before .before .before .before .fits .steps .fits) }
 
--- src/machine.rt:37:5
 loop-less : tie.Need-loop-less Inv-loop μ-loop
 loop-less c = omega arith
 
--- src/machine.rt:37:5
 loop-again : tie.Need-loop-again Inv-loop μ-loop
 loop-again c = let here = c .before .before .before .before .before .before .before .before .before .loop in
     let start = c .before .before .before .before .before .before .before .before .before .before .before .before .before .parted in
@@ -86,23 +76,18 @@ loop-again c = let here = c .before .before .before .before .before .before .bef
       beyond-law (went .result .effect) (start .result) (here .k) (here .partition) _ q (settled (put .result) _) (put .ensures) ∙ here .inv .5,
     )
 
--- src/machine.rt:50:9
 unpack-requires : tie.Need-unpack-requires Inv-loop μ-loop
 unpack-requires c κs = search needs
 
--- src/machine.rt:55:15
 cast-t22 : tie.Need-cast-t22 Inv-loop μ-loop
 cast-t22 c = record { fits = c .before .before .before .loop .inv .2 }
 
--- src/machine.rt:56:18
 cast-t23 : tie.Need-cast-t23 Inv-loop μ-loop
 cast-t23 c = record { fits = c .before .before .before .before .loop .inv .3 }
 
--- src/machine.rt:26:1
 same-length : tie.Need-same-length Inv-loop μ-loop
 same-length c = c .before .before .before .before .loop .inv .1
 
--- src/machine.rt:26:1
 returns : tie.Need-returns Inv-loop μ-loop
 returns c = let here = c .before .before .before .before .loop in
     let args = c .before .before .before .before .before .before .before .before .before .before .args in

@@ -1,19 +1,16 @@
 use Rattle.cpu.specs.Machine.{machineStep}
 use Rattle.cpu.specs.Times.{times-one}
-use borrow.Author.Needs.{needs}
 use mathlib.Core.Path.{_∙_}
+use borrow.Author.Needs.{needs}
 use Rattle.cpu.proofs.machine.step.Statement.{statement}
 use Rattle.cpu.proofs.machine.step.Tie as tie
 
--- src/machine.rt:64:5
 run-requires : tie.Need-run-requires
 run-requires c κs = search needs
 
--- src/machine.rt:61:1
 same-length : tie.Need-same-length
 same-length c = search needs
 
--- src/machine.rt:61:1
 returns : tie.Need-returns
 returns c = (c .before .before .run .ensures .0 ∙ times-one machineStep _, c .before .before .run .ensures .1)
 

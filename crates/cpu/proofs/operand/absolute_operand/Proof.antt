@@ -1,27 +1,22 @@
 use Rattle.cpu.specs.Address.{withAddress, withByte}
 use Rattle.cpu.specs.Operand.{absoluteOperandOf}
-use borrow.Author.Needs.{needs}
 use mathlib.Core.Path.{_∙_, sym}
+use borrow.Author.Needs.{needs}
 use Rattle.cpu.proofs.operand.absolute_operand.Statement.{statement}
 use Rattle.cpu.proofs.operand.absolute_operand.Tie as tie
 
--- src/operand.rt:121:9
 after-requires : tie.Need-after-requires
 after-requires c κs = search needs
 
--- src/operand.rt:122:31
 fetch-requires : tie.Need-fetch-requires
 fetch-requires c κs = search needs
 
--- src/operand.rt:122:23
 enum-known-high : tie.Need-enum-known-high
 enum-known-high c = search needs
 
--- src/operand.rt:123:9
 enum-told : tie.Need-enum-told
 enum-told c = search needs
 
--- src/operand.rt:123:9
 returns : tie.Need-returns
 unfolding absoluteOperandOf withByte withAddress
 returns c =
@@ -30,23 +25,18 @@ returns c =
       sym (c .before .before .fetch .ensures) ∙ c .enum-told .given .1,
     )
 
--- src/operand.rt:125:9
 after-requires-2 : tie.Need-after-requires-2
 after-requires-2 c κs = search needs
 
--- src/operand.rt:126:30
 fetch-requires-2 : tie.Need-fetch-requires-2
 fetch-requires-2 c κs = search needs
 
--- src/operand.rt:126:23
 enum-known-low : tie.Need-enum-known-low
 enum-known-low c = search needs
 
--- src/operand.rt:127:9
 enum-told-2 : tie.Need-enum-told-2
 enum-told-2 c = search needs
 
--- src/operand.rt:127:9
 returns-2 : tie.Need-returns-2
 unfolding absoluteOperandOf withByte withAddress
 returns-2 c =
@@ -57,31 +47,24 @@ returns-2 c =
       sym (c .before .before .fetch2 .ensures) ∙ c .enum-told2 .given .1,
     )
 
--- src/operand.rt:130:9
 register-requires : tie.Need-register-requires
 register-requires c κs = search needs
 
--- src/operand.rt:131:9
 index-requires : tie.Need-index-requires
 index-requires c κs = search needs
 
--- src/operand.rt:132:9
 data-address-requires : tie.Need-data-address-requires
 data-address-requires c κs = search needs
 
--- src/operand.rt:133:26
 indexed-address-requires : tie.Need-indexed-address-requires
 indexed-address-requires c κs = search needs
 
--- src/operand.rt:133:21
 enum-known-a : tie.Need-enum-known-a
 enum-known-a c = search needs
 
--- src/operand.rt:134:9
 enum-told-3 : tie.Need-enum-told-3
 enum-told-3 c = search needs
 
--- src/operand.rt:134:9
 returns-3 : tie.Need-returns-3
 unfolding absoluteOperandOf withByte withAddress
 returns-3 c =
@@ -96,19 +79,15 @@ returns-3 c =
       sym (c .before .before .indexed-address .ensures) ∙ c .enum-told3 .given .1,
     )
 
--- src/operand.rt:136:28
 fetch-requires-3 : tie.Need-fetch-requires-3
 fetch-requires-3 c κs = search needs
 
--- src/operand.rt:136:23
 enum-known-b : tie.Need-enum-known-b
 enum-known-b c = search needs
 
--- src/operand.rt:137:9
 enum-told-4 : tie.Need-enum-told-4
 enum-told-4 c = search needs
 
--- src/operand.rt:137:9
 returns-4 : tie.Need-returns-4
 unfolding absoluteOperandOf withByte withAddress
 returns-4 c =
@@ -124,15 +103,12 @@ returns-4 c =
       sym (c .before .before .fetch3 .ensures) ∙ c .enum-told4 .given .1,
     )
 
--- src/operand.rt:139:9
 stepped-index-requires : tie.Need-stepped-index-requires
 stepped-index-requires c κs = search needs
 
--- src/operand.rt:140:9
 advanced-requires : tie.Need-advanced-requires
 advanced-requires c κs = search needs
 
--- src/operand.rt:117:1
 returns-5 : tie.Need-returns-5
 unfolding absoluteOperandOf withByte withAddress
 returns-5 c =

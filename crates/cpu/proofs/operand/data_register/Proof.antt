@@ -5,12 +5,10 @@ use native.Mathlib.Omega.{arith}
 use Rattle.cpu.proofs.operand.data_register.Statement.{statement}
 use Rattle.cpu.proofs.operand.data_register.Tie as tie
 
--- src/operand.rt:59:1
 returns : tie.Need-returns
 unfolding dataRegisterOf if_then_else_
 returns c = search tests
 
--- src/operand.rt:59:1
 returns-2 : tie.Need-returns-2
 unfolding dataRegisterOf if_then_else_
 returns-2 c = (search tests, omega arith)

@@ -3,39 +3,30 @@ use borrow.Author.Needs.{needs}
 use Rattle.cpu.proofs.operand.find.Statement.{statement}
 use Rattle.cpu.proofs.operand.find.Tie as tie
 
--- src/operand.rt:149:27
 enum-told : tie.Need-enum-told
 enum-told c = search needs
 
--- src/operand.rt:149:27
 register-operand-requires : tie.Need-register-operand-requires
 register-operand-requires c κs = search needs
 
--- src/operand.rt:150:28
 enum-told-2 : tie.Need-enum-told-2
 enum-told-2 c = search needs
 
--- src/operand.rt:150:28
 immediate-operand-requires : tie.Need-immediate-operand-requires
 immediate-operand-requires c κs = search needs
 
--- src/operand.rt:151:27
 enum-told-3 : tie.Need-enum-told-3
 enum-told-3 c = search needs
 
--- src/operand.rt:151:27
 relative-operand-requires : tie.Need-relative-operand-requires
 relative-operand-requires c κs = search needs
 
--- src/operand.rt:152:27
 enum-told-4 : tie.Need-enum-told-4
 enum-told-4 c = search needs
 
--- src/operand.rt:152:27
 absolute-operand-requires : tie.Need-absolute-operand-requires
 absolute-operand-requires c κs = search needs
 
--- src/operand.rt:144:1
 returns : tie.Need-returns
 unfolding operandOf
 returns c =
@@ -44,7 +35,6 @@ returns c =
       ← c .register-operand .ensures,
     )
 
--- src/operand.rt:144:1
 returns-2 : tie.Need-returns-2
 unfolding operandOf
 returns-2 c =
@@ -53,7 +43,6 @@ returns-2 c =
       ← c .immediate-operand .ensures,
     )
 
--- src/operand.rt:144:1
 returns-3 : tie.Need-returns-3
 unfolding operandOf
 returns-3 c =
@@ -62,7 +51,6 @@ returns-3 c =
       ← c .relative-operand .ensures,
     )
 
--- src/operand.rt:144:1
 returns-4 : tie.Need-returns-4
 unfolding operandOf
 returns-4 c =

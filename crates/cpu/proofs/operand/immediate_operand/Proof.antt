@@ -1,28 +1,23 @@
 use Rattle.cpu.specs.Address.{withByte}
 use Rattle.cpu.specs.Choice.{if_then_else_}
 use Rattle.cpu.specs.Operand.{dataRegisterOf, immediateOperandOf}
-use borrow.Author.Needs.{needs}
 use mathlib.Core.Path.{_∙_, sym}
+use borrow.Author.Needs.{needs}
 use Rattle.cpu.proofs.operand.immediate_operand.Statement.{statement}
 use Rattle.cpu.proofs.operand.immediate_operand.Tie as tie
 
--- src/operand.rt:90:9
 after-requires : tie.Need-after-requires
 after-requires c κs = search needs
 
--- src/operand.rt:91:28
 fetch-requires : tie.Need-fetch-requires
 fetch-requires c κs = search needs
 
--- src/operand.rt:91:23
 enum-known-b : tie.Need-enum-known-b
 enum-known-b c = search needs
 
--- src/operand.rt:92:9
 enum-told : tie.Need-enum-told
 enum-told c = search needs
 
--- src/operand.rt:92:9
 returns : tie.Need-returns
 unfolding immediateOperandOf dataRegisterOf withByte if_then_else_
 returns c =
@@ -31,11 +26,9 @@ returns c =
       sym (c .before .before .fetch .ensures) ∙ c .enum-told .given .1,
     )
 
--- src/operand.rt:94:9
 advanced-requires : tie.Need-advanced-requires
 advanced-requires c κs = search needs
 
--- src/operand.rt:87:1
 returns-2 : tie.Need-returns-2
 unfolding immediateOperandOf dataRegisterOf withByte if_then_else_
 returns-2 c =

@@ -5,30 +5,24 @@ use borrow.Author.Needs.{needs}
 use Rattle.cpu.proofs.operand.index.Statement.{statement}
 use Rattle.cpu.proofs.operand.index.Tie as tie
 
--- src/operand.rt:30:9
 wrapping-add-u8-requires : tie.Need-wrapping-add-u8-requires
 wrapping-add-u8-requires c κs = search needs
 
--- src/operand.rt:32:9
 wrapping-add-u8-requires-2 : tie.Need-wrapping-add-u8-requires-2
 wrapping-add-u8-requires-2 c κs = search needs
 
--- src/operand.rt:24:1
 returns : tie.Need-returns
 unfolding indexOf if_then_else_
 returns c = search tests
 
--- src/operand.rt:24:1
 returns-2 : tie.Need-returns-2
 unfolding indexOf if_then_else_
 returns-2 c = search tests
 
--- src/operand.rt:24:1
 returns-3 : tie.Need-returns-3
 unfolding indexOf if_then_else_
 returns-3 c = search tests
 
--- src/operand.rt:24:1
 returns-4 : tie.Need-returns-4
 unfolding indexOf if_then_else_
 returns-4 c = search tests

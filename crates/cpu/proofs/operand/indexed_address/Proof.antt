@@ -1,17 +1,15 @@
 use Rattle.cpu.specs.Address.{withAddress}
 use Rattle.cpu.specs.Choice.{if_then_else_}
 use Rattle.cpu.specs.Operand.{indexedAddressOf}
-use borrow.Author.Needs.{needs}
 use borrow.Author.Tests.{eq-eqb, ne-eqb}
 use mathlib.Core.Path.{_∙_, sym}
+use borrow.Author.Needs.{needs}
 use Rattle.cpu.proofs.operand.indexed_address.Statement.{statement}
 use Rattle.cpu.proofs.operand.indexed_address.Tie as tie
 
--- src/operand.rt:42:13
 in-page-requires : tie.Need-in-page-requires
 in-page-requires c κs = search needs
 
--- src/operand.rt:43:9
 returns : tie.Need-returns
 unfolding indexedAddressOf withAddress if_then_else_
 returns c =
@@ -20,19 +18,15 @@ returns c =
       ← c .in-page .ensures,
     )
 
--- src/operand.rt:45:26
 pointer-requires : tie.Need-pointer-requires
 pointer-requires c κs = search needs
 
--- src/operand.rt:45:21
 enum-known-p : tie.Need-enum-known-p
 enum-known-p c = search needs
 
--- src/operand.rt:46:9
 enum-told : tie.Need-enum-told
 enum-told c = search needs
 
--- src/operand.rt:46:9
 returns-2 : tie.Need-returns-2
 unfolding indexedAddressOf withAddress if_then_else_
 returns-2 c =
@@ -41,11 +35,9 @@ returns-2 c =
       sym (c .before .before .pointer .ensures) ∙ c .enum-told .given .1,
     )
 
--- src/operand.rt:48:9
 onward-requires : tie.Need-onward-requires
 onward-requires c κs = search needs
 
--- src/operand.rt:38:1
 returns-3 : tie.Need-returns-3
 unfolding indexedAddressOf withAddress if_then_else_
 returns-3 c =

@@ -4,15 +4,12 @@ use borrow.Author.Needs.{needs}
 use Rattle.cpu.proofs.operand.register_operand.Statement.{statement}
 use Rattle.cpu.proofs.operand.register_operand.Tie as tie
 
--- src/operand.rt:82:9
 register-requires : tie.Need-register-requires
 register-requires c κs = search needs
 
--- src/operand.rt:83:9
 advanced-requires : tie.Need-advanced-requires
 advanced-requires c κs = search needs
 
--- src/operand.rt:78:1
 returns : tie.Need-returns
 unfolding registerOperandOf dataRegisterOf if_then_else_
 returns c =

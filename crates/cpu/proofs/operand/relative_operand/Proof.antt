@@ -1,28 +1,23 @@
 use Rattle.cpu.specs.Address.{withAddress, withByte}
 use Rattle.cpu.specs.Choice.{if_then_else_}
 use Rattle.cpu.specs.Operand.{dataRegisterOf, relativeOperandOf}
-use borrow.Author.Needs.{needs}
 use mathlib.Core.Path.{_∙_, sym}
+use borrow.Author.Needs.{needs}
 use Rattle.cpu.proofs.operand.relative_operand.Statement.{statement}
 use Rattle.cpu.proofs.operand.relative_operand.Tie as tie
 
--- src/operand.rt:101:9
 after-requires : tie.Need-after-requires
 after-requires c κs = search needs
 
--- src/operand.rt:102:33
 fetch-requires : tie.Need-fetch-requires
 fetch-requires c κs = search needs
 
--- src/operand.rt:102:23
 enum-known-second : tie.Need-enum-known-second
 enum-known-second c = search needs
 
--- src/operand.rt:103:9
 enum-told : tie.Need-enum-told
 enum-told c = search needs
 
--- src/operand.rt:103:9
 returns : tie.Need-returns
 unfolding relativeOperandOf dataRegisterOf withByte withAddress if_then_else_
 returns c =
@@ -31,27 +26,21 @@ returns c =
       sym (c .before .before .fetch .ensures) ∙ c .enum-told .given .1,
     )
 
--- src/operand.rt:105:9
 after-requires-2 : tie.Need-after-requires-2
 after-requires-2 c κs = search needs
 
--- src/operand.rt:106:9
 relative-requires : tie.Need-relative-requires
 relative-requires c κs = search needs
 
--- src/operand.rt:107:26
 through-requires : tie.Need-through-requires
 through-requires c κs = search needs
 
--- src/operand.rt:107:21
 enum-known-a : tie.Need-enum-known-a
 enum-known-a c = search needs
 
--- src/operand.rt:108:9
 enum-told-2 : tie.Need-enum-told-2
 enum-told-2 c = search needs
 
--- src/operand.rt:108:9
 returns-2 : tie.Need-returns-2
 unfolding relativeOperandOf dataRegisterOf withByte withAddress if_then_else_
 returns-2 c =
@@ -63,19 +52,15 @@ returns-2 c =
       sym (c .before .before .through .ensures) ∙ c .enum-told2 .given .1,
     )
 
--- src/operand.rt:110:28
 fetch-requires-2 : tie.Need-fetch-requires-2
 fetch-requires-2 c κs = search needs
 
--- src/operand.rt:110:23
 enum-known-b : tie.Need-enum-known-b
 enum-known-b c = search needs
 
--- src/operand.rt:111:9
 enum-told-3 : tie.Need-enum-told-3
 enum-told-3 c = search needs
 
--- src/operand.rt:111:9
 returns-3 : tie.Need-returns-3
 unfolding relativeOperandOf dataRegisterOf withByte withAddress if_then_else_
 returns-3 c =
@@ -88,11 +73,9 @@ returns-3 c =
       sym (c .before .before .fetch2 .ensures) ∙ c .enum-told3 .given .1,
     )
 
--- src/operand.rt:113:9
 advanced-requires : tie.Need-advanced-requires
 advanced-requires c κs = search needs
 
--- src/operand.rt:98:1
 returns-4 : tie.Need-returns-4
 unfolding relativeOperandOf dataRegisterOf withByte withAddress if_then_else_
 returns-4 c =

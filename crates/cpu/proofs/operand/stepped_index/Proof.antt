@@ -1,21 +1,18 @@
 use Rattle.cpu.specs.Choice.{if_then_else_}
 use Rattle.cpu.specs.Operand.{steppedIndexOf}
-use borrow.Author.Needs.{needs}
 use borrow.Author.Tests.{eq-eqb, ne-eqb}
+use borrow.Author.Needs.{needs}
 use Rattle.cpu.proofs.operand.stepped_index.Statement.{statement}
 use Rattle.cpu.proofs.operand.stepped_index.Tie as tie
 
--- src/operand.rt:74:9
 with-register-requires : tie.Need-with-register-requires
 with-register-requires c κs = search needs
 
--- src/operand.rt:67:1
 returns : tie.Need-returns
 unfolding steppedIndexOf if_then_else_
 returns c =
     rw (eq-eqb _ _ (c .if1 .taken))
 
--- src/operand.rt:67:1
 returns-2 : tie.Need-returns-2
 unfolding steppedIndexOf if_then_else_
 returns-2 c =

@@ -2,29 +2,24 @@ use Prim.Native.Nat.{_%_}
 use Rattle.cpu.proofs.Registers.{stored-byte}
 use Rattle.cpu.specs.Core.{suppliedOf}
 use Rattle.cpu.specs.Operand.{withOperandOf}
-use borrow.Author.Needs.{needs}
 use mathlib.Core.Path.{_∙_, _≡_, ap, sym}
 use native.Mathlib.Omega.{arith}
+use borrow.Author.Needs.{needs}
 use Rattle.cpu.proofs.operand.with_operand.Statement.{statement}
 use Rattle.cpu.proofs.operand.with_operand.Tie as tie
 
--- src/operand.rt:161:43
 find-requires : tie.Need-find-requires
 find-requires c κs = search needs
 
--- src/operand.rt:161:23
 enum-known-b : tie.Need-enum-known-b
 enum-known-b c = search needs
 
--- src/operand.rt:162:9
 enum-told : tie.Need-enum-told
 enum-told c = search needs
 
--- src/operand.rt:162:9
 stopped-requires : tie.Need-stopped-requires
 stopped-requires c κs = search needs
 
--- src/operand.rt:162:9
 returns : tie.Need-returns
 unfolding withOperandOf
 returns c =
@@ -33,39 +28,30 @@ returns c =
       ← c .stopped .ensures,
     )
 
--- src/operand.rt:164:9
 data-register-requires : tie.Need-data-register-requires
 data-register-requires c κs = search needs
 
--- src/operand.rt:166:19
 enum-known-usage : tie.Need-enum-known-usage
 enum-known-usage c = search needs
 
--- src/operand.rt:166:25
 operated-requires : tie.Need-operated-requires
 operated-requires c κs = search needs
 
--- src/operand.rt:168:17
 enum-told-2 : tie.Need-enum-told-2
 enum-told-2 c = search needs
 
--- src/operand.rt:168:17
 register-requires : tie.Need-register-requires
 register-requires c κs = search needs
 
--- src/operand.rt:169:48
 cast-t15 : tie.Need-cast-t15
 cast-t15 c = search needs
 
--- src/operand.rt:169:60
 cast-t16 : tie.Need-cast-t16
 cast-t16 c = search needs
 
--- src/operand.rt:169:13
 ended-requires : tie.Need-ended-requires
 ended-requires c κs = search needs
 
--- src/operand.rt:157:1
 returns-2 : tie.Need-returns-2
 unfolding withOperandOf
 returns-2 c =
@@ -76,7 +62,6 @@ returns-2 c =
       ← c .operated .ensures,
     )
 
--- src/operand.rt:157:1
 returns-3 : tie.Need-returns-3
 unfolding withOperandOf
 returns-3 c =

@@ -1,93 +1,73 @@
 use Rattle.cpu.specs.Choice.{if_then_else_}
 use Rattle.cpu.specs.Partition.{settledOf}
-use borrow.Author.Needs.{needs}
 use borrow.Author.Tests.{le-ltb, lt-ltb}
+use borrow.Author.Needs.{needs}
 use Rattle.cpu.proofs.partition.settle.Statement.{statement}
 use Rattle.cpu.proofs.partition.settle.Tie as tie
 
--- src/partition.rt:98:29
 enum-told : tie.Need-enum-told
 enum-told c = search needs
 
--- src/partition.rt:99:24
 enum-known-effect : tie.Need-enum-known-effect
 enum-known-effect c = search needs
 
--- src/partition.rt:102:33
 cast-partition : tie.Need-cast-partition
 cast-partition c = search needs
 
--- src/partition.rt:102:17
 slice-write-partition : tie.Need-slice-write-partition
 slice-write-partition c = search needs
 
--- src/partition.rt:107:16
 enum-told-2 : tie.Need-enum-told-2
 enum-told-2 c = search needs
 
--- src/partition.rt:109:27
 add-t16 : tie.Need-add-t16
 add-t16 c = search needs
 
--- src/partition.rt:108:17
 returns : tie.Need-returns
 unfolding settledOf if_then_else_
 returns c = rw (c .before .before .before .before .enum-told2 .given .1, lt-ltb _ _ (c .before .if2 .taken))
 
--- src/partition.rt:115:22
 enum-known-effect-2 : tie.Need-enum-known-effect-2
 enum-known-effect-2 c = search needs
 
--- src/partition.rt:116:22
 add-at : tie.Need-add-at
 add-at c = search needs
 
--- src/partition.rt:118:33
 cast-partition-2 : tie.Need-cast-partition-2
 cast-partition-2 c = search needs
 
--- src/partition.rt:118:17
 slice-write-partition-2 : tie.Need-slice-write-partition-2
 slice-write-partition-2 c = search needs
 
--- src/partition.rt:121:30
 add-t21 : tie.Need-add-t21
 add-t21 c = search needs
 
--- src/partition.rt:119:17
 same-length : tie.Need-same-length
 same-length c = search needs
 
--- src/partition.rt:119:17
 returns-2 : tie.Need-returns-2
 unfolding settledOf if_then_else_
 returns-2 c = rw (c .before .before .before .before .before .before .effect2 .given .1, lt-ltb _ _ (c .before .if3 .taken))
 
--- src/partition.rt:89:1
 returns-3 : tie.Need-returns-3
 unfolding settledOf if_then_else_
 returns-3 c = rw (c .enum-told .given .1)
 
--- src/partition.rt:89:1
 same-length-2 : tie.Need-same-length-2
 same-length-2 c = search needs
 
--- src/partition.rt:89:1
 returns-4 : tie.Need-returns-4
 unfolding settledOf if_then_else_
 returns-4 c = rw (c .before .before .before .effect .given .1, lt-ltb _ _ (c .if1 .taken))
 
--- src/partition.rt:89:1
 returns-5 : tie.Need-returns-5
 unfolding settledOf if_then_else_
 returns-5 c = rw (c .before .before .before .effect .given .1, le-ltb _ _ (c .if1 .left))
 
--- src/partition.rt:89:1
 returns-6 : tie.Need-returns-6
 unfolding settledOf if_then_else_
 returns-6 c = rw (c .before .before .before .enum-told2 .given .1, le-ltb _ _ (c .if2 .left))
 
--- src/partition.rt:89:1
 returns-7 : tie.Need-returns-7
 unfolding settledOf if_then_else_
 returns-7 c = rw (c .before .before .before .before .before .effect2 .given .1, le-ltb _ _ (c .if3 .left))

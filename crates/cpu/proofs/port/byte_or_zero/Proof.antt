@@ -1,18 +1,15 @@
-use borrow.Author.Needs.{needs}
 use lib.ListN.{List·getD-eq-default}
 use mathlib.Core.Path.{sym}
+use borrow.Author.Needs.{needs}
 use Rattle.cpu.proofs.port.byte_or_zero.Statement.{statement}
 use Rattle.cpu.proofs.port.byte_or_zero.Tie as tie
 
--- src/port.rt:17:28
 shared-slice-read-result : tie.Need-shared-slice-read-result
 shared-slice-read-result c = search needs
 
--- src/port.rt:14:1
 returns : tie.Need-returns
 returns c = search needs
 
--- src/port.rt:14:1
 returns-2 : tie.Need-returns-2
 returns-2 c = sym (List·getD-eq-default (c .before .args .source .now) 0 (c .if1 .left))
 

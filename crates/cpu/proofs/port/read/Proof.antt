@@ -5,35 +5,27 @@ use borrow.Author.Needs.{needs}
 use Rattle.cpu.proofs.port.read.Statement.{statement}
 use Rattle.cpu.proofs.port.read.Tie as tie
 
--- src/port.rt:25:13
 byte-or-zero-requires : tie.Need-byte-or-zero-requires
 byte-or-zero-requires c κs = search needs
 
--- src/port.rt:26:13
 psl-requires : tie.Need-psl-requires
 psl-requires c κs = search needs
 
--- src/port.rt:27:13
 loaded-requires : tie.Need-loaded-requires
 loaded-requires c κs = search needs
 
--- src/port.rt:28:13
 applied-requires : tie.Need-applied-requires
 applied-requires c κs = search needs
 
--- src/port.rt:29:13
 advanced-requires : tie.Need-advanced-requires
 advanced-requires c κs = search needs
 
--- src/port.rt:30:9
 ended-requires : tie.Need-ended-requires
 ended-requires c κs = search needs
 
--- src/port.rt:32:9
 stopped-requires : tie.Need-stopped-requires
 stopped-requires c κs = search needs
 
--- src/port.rt:20:1
 returns : tie.Need-returns
 unfolding readOf offeredOf if_then_else_
 returns c =
@@ -47,7 +39,6 @@ returns c =
       ← c .ended .ensures,
     )
 
--- src/port.rt:20:1
 returns-2 : tie.Need-returns-2
 unfolding readOf offeredOf if_then_else_
 returns-2 c =

@@ -3,33 +3,27 @@ use Rattle.cpu.proofs.Registers.{put-byte-out}
 use Rattle.cpu.specs.Choice.{if_then_else_}
 use Rattle.cpu.specs.Core.{offeredOf}
 use Rattle.cpu.specs.Port.{writeOf}
-use borrow.Author.Needs.{needs}
 use mathlib.Core.Path.{_≡_}
 use native.Mathlib.Omega.{arith}
+use borrow.Author.Needs.{needs}
 use Rattle.cpu.proofs.port.write.Statement.{statement}
 use Rattle.cpu.proofs.port.write.Tie as tie
 
--- src/port.rt:41:9
 stopped-requires : tie.Need-stopped-requires
 stopped-requires c κs = search needs
 
--- src/port.rt:43:13
 register-requires : tie.Need-register-requires
 register-requires c κs = search needs
 
--- src/port.rt:44:13
 advanced-requires : tie.Need-advanced-requires
 advanced-requires c κs = search needs
 
--- src/port.rt:45:42
 cast-t9 : tie.Need-cast-t9
 cast-t9 c = search needs
 
--- src/port.rt:45:9
 ended-requires : tie.Need-ended-requires
 ended-requires c κs = search needs
 
--- src/port.rt:36:1
 returns : tie.Need-returns
 unfolding writeOf offeredOf if_then_else_
 returns c =
@@ -38,7 +32,6 @@ returns c =
       ← c .stopped .ensures,
     )
 
--- src/port.rt:36:1
 returns-2 : tie.Need-returns-2
 unfolding writeOf offeredOf if_then_else_
 returns-2 c =

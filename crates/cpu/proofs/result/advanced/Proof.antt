@@ -3,15 +3,12 @@ use borrow.Author.Needs.{needs}
 use Rattle.cpu.proofs.result.advanced.Statement.{statement}
 use Rattle.cpu.proofs.result.advanced.Tie as tie
 
--- src/result.rt:78:9
 after-requires : tie.Need-after-requires
 after-requires c κs = search needs
 
--- src/result.rt:79:5
 with-counter-requires : tie.Need-with-counter-requires
 with-counter-requires c κs = search needs
 
--- src/result.rt:74:1
 returns : tie.Need-returns
 unfolding advancedOf
 returns c =

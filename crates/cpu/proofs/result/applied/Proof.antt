@@ -1,21 +1,18 @@
 use Rattle.cpu.specs.Result.{appliedOf}
 use Rattle.cpu.specs.State.{bitRS, pslOf, withRegister}
-use borrow.Author.Needs.{needs}
 use mathlib.Core.Path.{_∙_, ap, sym}
 use Rattle.cpu.specs.declared.state.Cpu.{Cpu}
+use borrow.Author.Needs.{needs}
 use Rattle.cpu.proofs.result.applied.Statement.{statement}
 use Rattle.cpu.proofs.result.applied.Tie as tie
 
--- src/result.rt:87:9
 with-register-requires : tie.Need-with-register-requires
 with-register-requires c κs = search needs
 
--- src/result.rt:88:5
 with-result-requires : tie.Need-with-result-requires
 unfolding pslOf withRegister
 with-result-requires c κs = c .before .pre .1 ∙ ap (λ (n : Cpu). bitRS (pslOf n)) (sym (c .with-register .ensures))
 
--- src/result.rt:82:1
 returns : tie.Need-returns
 unfolding appliedOf
 returns c =

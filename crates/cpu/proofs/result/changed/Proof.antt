@@ -3,19 +3,15 @@ use borrow.Author.Needs.{needs}
 use Rattle.cpu.proofs.result.changed.Statement.{statement}
 use Rattle.cpu.proofs.result.changed.Tie as tie
 
--- src/result.rt:96:9
 applied-requires : tie.Need-applied-requires
 applied-requires c κs = search needs
 
--- src/result.rt:97:9
 advanced-requires : tie.Need-advanced-requires
 advanced-requires c κs = search needs
 
--- src/result.rt:98:5
 going-requires : tie.Need-going-requires
 going-requires c κs = search needs
 
--- src/result.rt:91:1
 returns : tie.Need-returns
 unfolding changedOf
 returns c =

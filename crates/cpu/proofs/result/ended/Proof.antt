@@ -3,7 +3,6 @@ use mathlib.Core.Path.{refl}
 use Rattle.cpu.proofs.result.ended.Statement.{statement}
 use Rattle.cpu.proofs.result.ended.Tie as tie
 
--- src/result.rt:36:1
 returns : tie.Need-returns
 unfolding steppedOf
 returns c = refl

@@ -3,7 +3,6 @@ use mathlib.Core.Path.{refl}
 use Rattle.cpu.proofs.result.going.Statement.{statement}
 use Rattle.cpu.proofs.result.going.Tie as tie
 
--- src/result.rt:46:1
 returns : tie.Need-returns
 unfolding steppedOf
 returns c = refl

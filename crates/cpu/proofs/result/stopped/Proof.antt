@@ -3,7 +3,6 @@ use mathlib.Core.Path.{refl}
 use Rattle.cpu.proofs.result.stopped.Statement.{statement}
 use Rattle.cpu.proofs.result.stopped.Tie as tie
 
--- src/result.rt:56:1
 returns : tie.Need-returns
 unfolding steppedOf
 returns c = refl

@@ -1,31 +1,25 @@
 use Rattle.cpu.specs.Address.{withByte}
 use Rattle.cpu.specs.Status.{maskedOf}
-use borrow.Author.Needs.{needs}
 use mathlib.Core.Path.{_∙_, sym}
+use borrow.Author.Needs.{needs}
 use Rattle.cpu.proofs.status.preset_psl.Statement.{statement}
 use Rattle.cpu.proofs.status.preset_psl.Tie as tie
 
--- src/status.rt:72:9
 after-requires : tie.Need-after-requires
 after-requires c κs = search needs
 
--- src/status.rt:73:31
 fetch-requires : tie.Need-fetch-requires
 fetch-requires c κs = search needs
 
--- src/status.rt:73:23
 enum-known-mask : tie.Need-enum-known-mask
 enum-known-mask c = search needs
 
--- src/status.rt:74:9
 enum-told : tie.Need-enum-told
 enum-told c = search needs
 
--- src/status.rt:74:9
 stopped-requires : tie.Need-stopped-requires
 stopped-requires c κs = search needs
 
--- src/status.rt:74:9
 returns : tie.Need-returns
 unfolding maskedOf withByte
 returns c =
@@ -35,23 +29,18 @@ returns c =
       ← c .stopped .ensures,
     )
 
--- src/status.rt:76:9
 psl-requires : tie.Need-psl-requires
 psl-requires c κs = search needs
 
--- src/status.rt:77:9
 with-psl-requires : tie.Need-with-psl-requires
 with-psl-requires c κs = search needs
 
--- src/status.rt:78:9
 advanced-requires : tie.Need-advanced-requires
 advanced-requires c κs = search needs
 
--- src/status.rt:79:5
 going-requires : tie.Need-going-requires
 going-requires c κs = search needs
 
--- src/status.rt:69:1
 returns-2 : tie.Need-returns-2
 unfolding maskedOf withByte
 returns-2 c =

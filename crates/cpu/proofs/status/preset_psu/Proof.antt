@@ -1,31 +1,25 @@
 use Rattle.cpu.specs.Address.{withByte}
 use Rattle.cpu.specs.Status.{maskedOf}
-use borrow.Author.Needs.{needs}
 use mathlib.Core.Path.{_∙_, sym}
+use borrow.Author.Needs.{needs}
 use Rattle.cpu.proofs.status.preset_psu.Statement.{statement}
 use Rattle.cpu.proofs.status.preset_psu.Tie as tie
 
--- src/status.rt:58:9
 after-requires : tie.Need-after-requires
 after-requires c κs = search needs
 
--- src/status.rt:59:31
 fetch-requires : tie.Need-fetch-requires
 fetch-requires c κs = search needs
 
--- src/status.rt:59:23
 enum-known-mask : tie.Need-enum-known-mask
 enum-known-mask c = search needs
 
--- src/status.rt:60:9
 enum-told : tie.Need-enum-told
 enum-told c = search needs
 
--- src/status.rt:60:9
 stopped-requires : tie.Need-stopped-requires
 stopped-requires c κs = search needs
 
--- src/status.rt:60:9
 returns : tie.Need-returns
 unfolding maskedOf withByte
 returns c =
@@ -35,27 +29,21 @@ returns c =
       ← c .stopped .ensures,
     )
 
--- src/status.rt:62:9
 psu-requires : tie.Need-psu-requires
 psu-requires c κs = search needs
 
--- src/status.rt:63:9
 stored-requires : tie.Need-stored-requires
 stored-requires c κs = search needs
 
--- src/status.rt:64:9
 with-psu-requires : tie.Need-with-psu-requires
 with-psu-requires c κs = search needs
 
--- src/status.rt:65:9
 advanced-requires : tie.Need-advanced-requires
 advanced-requires c κs = search needs
 
--- src/status.rt:66:5
 going-requires : tie.Need-going-requires
 going-requires c κs = search needs
 
--- src/status.rt:55:1
 returns-2 : tie.Need-returns-2
 unfolding maskedOf withByte
 returns-2 c =

@@ -4,20 +4,16 @@ use borrow.Author.Needs.{needs}
 use Rattle.cpu.proofs.status.sensed.Statement.{statement}
 use Rattle.cpu.proofs.status.sensed.Tie as tie
 
--- src/status.rt:18:9
 psu-requires : tie.Need-psu-requires
 psu-requires c κs = search needs
 
--- src/status.rt:19:17
 add-result : tie.Need-add-result
 add-result c = search needs
 
--- src/status.rt:15:1
 returns : tie.Need-returns
 unfolding sensedOf if_then_else_
 returns c = rw (← c .before .psu .ensures, c .if1 .taken)
 
--- src/status.rt:15:1
 returns-2 : tie.Need-returns-2
 unfolding sensedOf if_then_else_
 returns-2 c = rw (← c .before .psu .ensures, c .if1 .left)

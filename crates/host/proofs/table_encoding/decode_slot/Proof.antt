@@ -26,6 +26,4 @@ returns c =
     )
 
 pub decode-slot-spec : {M : Type 1} → statement M
-decode-slot-spec =
-    tie.close
-    (tie.spec part-requires decode-partition-requires rest-requires decode-requires returns)
+decode-slot-spec = tie.close (tie.spec part-requires decode-partition-requires rest-requires decode-requires returns)

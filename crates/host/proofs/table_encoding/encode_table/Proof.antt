@@ -1,13 +1,13 @@
 use mathlib.Core.Path.{_≡_, refl, sym, ap, _∙_}
 use Rattle.host.proofs.Tables.{soFar, none-yet, no-bytes, one-more, size-more, all-done}
 use Prim.Native.Nat.{ℕ, _*_, _-_, _≤_}
-use borrow.Author.Needs.{needs}
 use denote.Ref.{now}
 use lib.ListN.{length, length-map}
 use mathlib.Core.Path.{_≡_, sym, ap, _∙_}
 use native.Mathlib.Omega.{arith}
 use Rattle.slices.specs.Slices.{copied}
 use Rattle.host.proofs.Tables.{soFar, none-yet, one-more, size-more, all-done}
+use borrow.Author.Needs.{needs}
 use Rattle.host.proofs.table_encoding.encode_table.Statement.{statement}
 use Rattle.host.proofs.table_encoding.encode_table.Tie as tie
 

@@ -3,14 +3,10 @@ use mathlib.Core.Path.{refl}
 use borrow.Author.Needs.{needs}
 use Rattle.listing.proofs.rounds.is_running.Statement.{statement}
 use Rattle.listing.proofs.rounds.is_running.Tie as tie
-use Rattle.listing.proofs.rounds.is_running.Reads as reads
-use Rattle.listing.proofs.rounds.is_running.Lts as lts
 
--- src/rounds.rt:12:13
 element-copy-out-s : tie.Need-element-copy-out-s
 element-copy-out-s c = search needs
 
--- src/rounds.rt:9:1
 returns : tie.Need-returns
 unfolding slotAt
 returns c = refl

@@ -7,10 +7,6 @@ use Rattle.listing.specs.Rounds.{untilStopped}
 use Rattle.listing.specs.RunLaws.{until-more, until-done, taken-more}
 use Rattle.listing.proofs.rounds.rounds.Statement.{statement}
 use Rattle.listing.proofs.rounds.rounds.Tie as tie
-use Rattle.listing.proofs.rounds.rounds.Reads as reads
-use Rattle.listing.proofs.rounds.rounds.Lts as lts
-use Rattle.listing.proofs.rounds.is_running.Reads as is-running-reads
-use Rattle.supervisor.proofs.run.Reads as run-reads
 
 abbrev Inv-loop : tie.InvT-loop
 Inv-loop memory₀ next₀ left₀ memory next left = (length memory ≡ length memory₀) × (untilStopped left (system next memory) ≡ untilStopped left₀ (system next₀ memory₀))
@@ -18,36 +14,28 @@ Inv-loop memory₀ next₀ left₀ memory next left = (length memory ≡ length 
 abbrev μ-loop : tie.MeasureT-loop
 μ-loop memory₀ next₀ left₀ memory next left = left
 
--- src/rounds.rt:23:5
 loop-holds : tie.Need-loop-holds Inv-loop μ-loop
 loop-holds c = (refl, refl)
 
--- src/rounds.rt:23:24
 is-running-requires : tie.Need-is-running-requires Inv-loop μ-loop
 is-running-requires c κs = tt
 
--- src/rounds.rt:24:13
 run-requires : tie.Need-run-requires Inv-loop μ-loop
 run-requires c κs = tt
 
--- src/rounds.rt:26:9
 sub-left : tie.Need-sub-left Inv-loop μ-loop
 sub-left c = let h = taken-more (c .before .before .before .before .before .before .before .loop .left) (c .before .before .before .before .before .before .is-running .result) (c .before .before .before .before .before .if1 .taken) in omega arith
 
--- src/rounds.rt:23:5
 loop-less : tie.Need-loop-less Inv-loop μ-loop
 loop-less c = let h = taken-more (c .before .before .before .before .before .before .before .loop .left) (c .before .before .before .before .before .before .is-running .result) (c .before .before .before .before .before .if1 .taken) in omega arith
 
--- src/rounds.rt:23:5
 loop-again : tie.Need-loop-again Inv-loop μ-loop
 unfolding outcomeOf
 loop-again c = (c .before .before .before .run .kept .1 .0 ∙ c .before .before .before .before .before .before .before .loop .inv .0, ap (untilStopped _) (ap (λ (o : Outcome). o .after) (c .before .before .before .run .ensures)) ∙ sym (until-more _ _ (c .before .before .before .before .before .before .is-running .ensures) (c .before .before .before .before .before .if1 .taken)) ∙ c .before .before .before .before .before .before .before .loop .inv .1)
 
--- src/rounds.rt:18:1
 same-length : tie.Need-same-length Inv-loop μ-loop
 same-length c = c .before .before .loop .inv .0
 
--- src/rounds.rt:18:1
 returns : tie.Need-returns Inv-loop μ-loop
 returns c = sym (until-done _ _ (c .before .is-running .ensures) (c .if1 .left)) ∙ c .before .before .loop .inv .1
 

@@ -3,23 +3,17 @@ use borrow.Author.Tests.{lt-ltb, le-ltb}
 use borrow.Author.Needs.{needs}
 use Rattle.listing.proofs.text.hex_digit.Statement.{statement}
 use Rattle.listing.proofs.text.hex_digit.Tie as tie
-use Rattle.listing.proofs.text.hex_digit.Reads as reads
-use Rattle.listing.proofs.text.hex_digit.Lts as lts
 
--- src/text.rt:15:17
 add-result : tie.Need-add-result
 add-result c = search needs
 
--- src/text.rt:15:35
 add-result-2 : tie.Need-add-result-2
 add-result-2 c = search needs
 
--- src/text.rt:11:1
 returns : tie.Need-returns
 unfolding hexDigit
 returns c = rw (lt-ltb _ _ (c .if1 .taken))
 
--- src/text.rt:11:1
 returns-2 : tie.Need-returns-2
 unfolding hexDigit
 returns-2 c = rw (le-ltb _ _ (c .if1 .left))

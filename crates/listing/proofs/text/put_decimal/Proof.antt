@@ -4,51 +4,37 @@ use Rattle.listing.specs.TextLaws.{one-digit, two-digits}
 use borrow.Author.Needs.{needs}
 use Rattle.listing.proofs.text.put_decimal.Statement.{statement}
 use Rattle.listing.proofs.text.put_decimal.Tie as tie
-use Rattle.listing.proofs.text.put_decimal.Reads as reads
-use Rattle.listing.proofs.text.put_decimal.Lts as lts
-use Rattle.slices.proofs.copy.Reads as copy-reads
 
--- src/text.rt:97:23
 add-t7 : tie.Need-add-t7
 add-t7 c = search needs
 
--- src/text.rt:98:32
 slice-aggregate-copy : tie.Need-slice-aggregate-copy
 slice-aggregate-copy c = search needs
 
--- src/text.rt:98:9
 copy-requires : tie.Need-copy-requires
 copy-requires c κs = search needs
 
--- src/text.rt:99:9
 same-length : tie.Need-same-length
 same-length c = search needs
 
--- src/text.rt:99:9
 returns : tie.Need-returns
 returns c = (sym (ap length (one-digit _ (c .before .before .before .before .before .if1 .taken))), rw (one-digit _ (c .before .before .before .before .before .if1 .taken)) (c .before .before .copy .ensures))
 
--- src/text.rt:101:19
 add-t14 : tie.Need-add-t14
 add-t14 c = search needs
 
--- src/text.rt:101:34
 add-t16 : tie.Need-add-t16
 add-t16 c = search needs
 
--- src/text.rt:102:28
 slice-aggregate-copy-2 : tie.Need-slice-aggregate-copy-2
 slice-aggregate-copy-2 c = search needs
 
--- src/text.rt:102:5
 copy-requires-2 : tie.Need-copy-requires-2
 copy-requires-2 c κs = search needs
 
--- src/text.rt:92:1
 same-length-2 : tie.Need-same-length-2
 same-length-2 c = search needs
 
--- src/text.rt:92:1
 returns-2 : tie.Need-returns-2
 returns-2 c = (sym (ap length (two-digits _ (c .before .before .before .before .before .if1 .left))), rw (two-digits _ (c .before .before .before .before .before .if1 .left)) (c .before .before .copy2 .ensures))
 

@@ -7,9 +7,6 @@ use Rattle.listing.specs.Text.{fields}
 use Rattle.listing.proofs.Texts.{none-put, one-more, all-put}
 use Rattle.listing.proofs.text.put_fields.Statement.{statement}
 use Rattle.listing.proofs.text.put_fields.Tie as tie
-use Rattle.listing.proofs.text.put_fields.Reads as reads
-use Rattle.listing.proofs.text.put_fields.Lts as lts
-use Rattle.listing.proofs.text.put_field.Reads as put-field-reads
 
 abbrev Inv-loop : tie.InvT-loop
 Inv-loop bytes text₀ at i₀ text i = (i ≤ length bytes) × (text ≡ copied text₀ at (fields (take i bytes))) × (length text ≡ length text₀)
@@ -17,43 +14,33 @@ Inv-loop bytes text₀ at i₀ text i = (i ≤ length bytes) × (text ≡ copied
 abbrev μ-loop : tie.MeasureT-loop
 μ-loop bytes text₀ at i₀ text i = length bytes - i
 
--- src/text.rt:31:5
 loop-holds : tie.Need-loop-holds Inv-loop μ-loop
 loop-holds c = (omega arith, none-put (c .before .before .args .text .now) (c .before .before .args .at) (c .before .before .args .bytes .now) (c .before .before .pre), refl)
 
--- src/text.rt:32:19
 shared-slice-read-put-field : tie.Need-shared-slice-read-put-field Inv-loop μ-loop
 shared-slice-read-put-field c = omega arith
 
--- src/text.rt:32:40
 mul-put-field : tie.Need-mul-put-field Inv-loop μ-loop
 mul-put-field c = omega (arith, c .before .before .before .loop .inv .0, c .before .before .before .before .before .before .pre)
 
--- src/text.rt:32:35
 add-put-field : tie.Need-add-put-field Inv-loop μ-loop
 add-put-field c = omega (arith, c .before .before .before .loop .inv .0, c .before .before .before .before .before .before .pre)
 
--- src/text.rt:32:9
 put-field-requires : tie.Need-put-field-requires Inv-loop μ-loop
 put-field-requires c κs = tt
 
--- src/text.rt:33:9
 add-i : tie.Need-add-i Inv-loop μ-loop
 add-i c = omega (arith, c .before .before .before .before .before .before .loop .inv .0)
 
--- src/text.rt:31:5
 loop-less : tie.Need-loop-less Inv-loop μ-loop
 loop-less c = omega (arith, c .before .before .before .before .before .before .loop .inv .0)
 
--- src/text.rt:31:5
 loop-again : tie.Need-loop-again Inv-loop μ-loop
 loop-again c = (omega arith, one-more _ _ _ (c .before .before .before .before .before .before .before .before .before .pre) _ _ _ (c .before .before .before .before .before .loop-test .taken) (c .before .before .before .before .before .before .loop .inv .1) (c .before .before .put-field .ensures), c .before .before .put-field .kept .1 .0 ∙ c .before .before .before .before .before .before .loop .inv .2)
 
--- src/text.rt:26:1
 same-length : tie.Need-same-length Inv-loop μ-loop
 same-length c = c .before .loop .inv .2
 
--- src/text.rt:26:1
 returns : tie.Need-returns Inv-loop μ-loop
 returns c = all-put _ _ _ (c .before .before .before .before .pre) _ _ (c .before .loop .inv .0) (c .loop-test .left) (c .before .loop .inv .1)
 

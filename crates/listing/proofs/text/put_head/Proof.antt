@@ -3,52 +3,37 @@ use Rattle.listing.specs.TextLaws.{one-digit}
 use borrow.Author.Needs.{needs}
 use Rattle.listing.proofs.text.put_head.Statement.{statement}
 use Rattle.listing.proofs.text.put_head.Tie as tie
-use Rattle.listing.proofs.text.put_head.Reads as reads
-use Rattle.listing.proofs.text.put_head.Lts as lts
-use Rattle.listing.proofs.text.hex_digit.Reads as hex-digit-reads
-use Rattle.slices.proofs.copy.Reads as copy-reads
 
--- src/text.rt:42:16
 cast-high : tie.Need-cast-high
 cast-high c = search needs
 
--- src/text.rt:43:15
 cast-low : tie.Need-cast-low
 cast-low c = search needs
 
--- src/text.rt:45:9
 add-t8 : tie.Need-add-t8
 add-t8 c = search needs
 
--- src/text.rt:47:9
 hex-digit-requires : tie.Need-hex-digit-requires
 hex-digit-requires c κs = search needs
 
--- src/text.rt:48:9
 hex-digit-requires-2 : tie.Need-hex-digit-requires-2
 hex-digit-requires-2 c κs = search needs
 
--- src/text.rt:49:9
 hex-digit-requires-3 : tie.Need-hex-digit-requires-3
 hex-digit-requires-3 c κs = search needs
 
--- src/text.rt:50:9
 hex-digit-requires-4 : tie.Need-hex-digit-requires-4
 hex-digit-requires-4 c κs = search needs
 
--- src/text.rt:52:27
 slice-aggregate-copy : tie.Need-slice-aggregate-copy
 slice-aggregate-copy c = search needs
 
--- src/text.rt:52:5
 copy-requires : tie.Need-copy-requires
 copy-requires c κs = search needs
 
--- src/text.rt:38:1
 same-length : tie.Need-same-length
 same-length c = search needs
 
--- src/text.rt:38:1
 returns : tie.Need-returns
 unfolding hexByte hexWord
 returns c = rw (one-digit _ (c .before .before .before .before .before .before .before .before .before .before .pre), ← c .before .before .before .before .before .before .before .before .hex-digit .ensures, ← c .before .before .before .before .before .before .before .hex-digit2 .ensures, ← c .before .before .before .before .before .before .hex-digit3 .ensures, ← c .before .before .before .before .before .hex-digit4 .ensures) (c .before .before .copy .ensures)

@@ -3,58 +3,40 @@ use Rattle.listing.proofs.Texts.{lines-put}
 use borrow.Author.Needs.{needs}
 use Rattle.listing.proofs.text.put_lines.Statement.{statement}
 use Rattle.listing.proofs.text.put_lines.Tie as tie
-use Rattle.listing.proofs.text.put_lines.Reads as reads
-use Rattle.listing.proofs.text.put_lines.Lts as lts
-use Rattle.listing.proofs.text.put_fields.Reads as put-fields-reads
-use Rattle.listing.proofs.text.put_head.Reads as put-head-reads
-use Rattle.listing.proofs.text.put_values.Reads as put-values-reads
-use Rattle.slices.proofs.copy.Reads as copy-reads
 
--- src/text.rt:82:5
 put-head-requires : tie.Need-put-head-requires
 put-head-requires c κs = search needs
 
--- src/text.rt:83:5
 put-values-requires : tie.Need-put-values-requires
 put-values-requires c κs = search needs
 
--- src/text.rt:84:28
 slice-aggregate-copy : tie.Need-slice-aggregate-copy
 slice-aggregate-copy c = search needs
 
--- src/text.rt:84:5
 copy-requires : tie.Need-copy-requires
 copy-requires c κs = search needs
 
--- src/text.rt:85:5
 put-fields-requires : tie.Need-put-fields-requires
 put-fields-requires c κs = search needs
 
--- src/text.rt:86:20
 mul-end : tie.Need-mul-end
 mul-end c = search needs
 
--- src/text.rt:86:15
 add-end : tie.Need-add-end
 add-end c = search needs
 
--- src/text.rt:87:29
 slice-aggregate-copy-2 : tie.Need-slice-aggregate-copy-2
 slice-aggregate-copy-2 c = search needs
 
--- src/text.rt:87:5
 copy-requires-2 : tie.Need-copy-requires-2
 copy-requires-2 c κs = search needs
 
--- src/text.rt:88:5
 add-result : tie.Need-add-result
 add-result c = search needs
 
--- src/text.rt:76:1
 same-length : tie.Need-same-length
 same-length c = search needs
 
--- src/text.rt:76:1
 returns : tie.Need-returns
 returns c = let put = lines-put _ _ (c .before .before .before .before .before .before .before .before .before .before .before .before .before .before .before .before .before .before .before .before .before .before .before .before .pre .0) (search needs) _ _ _ _ _ _ (c .before .before .before .before .before .before .before .before .before .before .before .before .before .before .before .before .before .before .before .before .before .before .before .before .pre .1) (c .before .before .before .before .before .before .before .before .before .before .before .before .before .before .before .before .before .before .before .before .put-head .ensures) (c .before .before .before .before .before .before .before .before .before .before .before .before .before .before .before .before .put-values .ensures) (c .before .before .before .before .before .before .before .before .before .before .before .copy .ensures) (c .before .before .before .before .before .before .before .put-fields .ensures) (c .before .before .copy2 .ensures) in (put .0, (put .1, omega arith))
 

@@ -5,31 +5,22 @@ use Rattle.listing.proofs.Texts.{values-put}
 use borrow.Author.Needs.{needs}
 use Rattle.listing.proofs.text.put_values.Statement.{statement}
 use Rattle.listing.proofs.text.put_values.Tie as tie
-use Rattle.listing.proofs.text.put_values.Reads as reads
-use Rattle.listing.proofs.text.put_values.Lts as lts
-use Rattle.listing.proofs.text.put_fields.Reads as put-fields-reads
 
--- src/text.rt:61:16
 slice-aggregate-put-fields : tie.Need-slice-aggregate-put-fields
 slice-aggregate-put-fields c = search needs
 
--- src/text.rt:61:5
 put-fields-requires : tie.Need-put-fields-requires
 put-fields-requires c κs = search needs
 
--- src/text.rt:63:16
 slice-aggregate-put-fields-2 : tie.Need-slice-aggregate-put-fields-2
 slice-aggregate-put-fields-2 c = search needs
 
--- src/text.rt:63:5
 put-fields-requires-2 : tie.Need-put-fields-requires-2
 put-fields-requires-2 c κs = let seven : length (c .before .before .before .before .before .before .before .before .before .args .report .registers) ≡ 7 = search needs in omega (arith, c .before .before .before .before .before .put-fields .kept, c .before .before .before .before .before .before .before .before .before .pre)
 
--- src/text.rt:56:1
 same-length : tie.Need-same-length
 same-length c = search needs
 
--- src/text.rt:56:1
 returns : tie.Need-returns
 returns c = values-put _ _ _ _ _ _ (search needs) (c .before .before .before .before .before .before .before .before .before .before .before .before .pre) (c .before .before .before .before .before .before .before .before .put-fields .ensures) (c .before .before .put-fields2 .ensures)
 

@@ -1,4 +1,3 @@
-use borrow.Author.Needs.{needs}
 use mathlib.Core.Path.{_≡_, refl, sym, ap, _∙_}
 use Prim.Native.Nat.{ℕ, _+_, _*_, _≤_, _-_}
 use lib.ListN.{length}
@@ -6,6 +5,7 @@ use native.Mathlib.Nat.{add-mul, zero-mul}
 use native.Mathlib.Omega.{arith}
 use Rattle.cpu.specs.Machine.{Machine, beyond, machineOf, machineStep, times}
 use Rattle.cpu.specs.Times.{times-zero, times-add, times-rests}
+use borrow.Author.Needs.{needs}
 use Rattle.machine.proofs.rounds.run.Statement.{statement}
 use Rattle.machine.proofs.rounds.run.Tie as tie
 
@@ -15,19 +15,15 @@ Inv-loop partition₀ sizes quantum rounds s₀ i₀ partition s i = (i ≤ roun
 abbrev μ-loop : tie.MeasureT-loop
 μ-loop partition₀ sizes quantum rounds s₀ i₀ partition s i = rounds - i
 
--- src/rounds.rt:15:5
 loop-holds : tie.Need-loop-holds Inv-loop μ-loop
 loop-holds c = (omega arith, refl, rw (zero-mul) (sym (times-zero machineStep _)), refl)
 
--- src/rounds.rt:16:13
 run-requires : tie.Need-run-requires Inv-loop μ-loop
 run-requires c κs = search needs
 
--- src/rounds.rt:18:9
 add-i : tie.Need-add-i Inv-loop μ-loop
 add-i c = search needs
 
--- src/rounds.rt:15:5
 loop-less : tie.Need-loop-less Inv-loop μ-loop
 loop-less c = omega arith
 

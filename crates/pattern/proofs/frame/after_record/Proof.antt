@@ -1,6 +1,6 @@
 -- `pattern::frame::after_record`: the rest behind the four bytes and the body.
-use borrow.Author.Needs.{needs}
 use Rattle.pattern.specs.Frame.{afterRecord}
+use borrow.Author.Needs.{needs}
 use Rattle.pattern.proofs.frame.after_record.Statement.{statement}
 use Rattle.pattern.proofs.frame.after_record.Tie as tie
 
@@ -21,5 +21,4 @@ unfolding afterRecord
 returns c = rw (c .rest .ensures, c .before .body-length .ensures)
 
 pub after-record-spec : {M : Type 1} → statement M
-after-record-spec =
-    tie.close (tie.spec body-length-requires cast-rest add-rest rest-requires returns)
+after-record-spec = tie.close (tie.spec body-length-requires cast-rest add-rest rest-requires returns)

@@ -1,6 +1,6 @@
 -- `pattern::frame::body`: the part from 4 on, of the length that the record gives.
-use borrow.Author.Needs.{needs}
 use Rattle.pattern.specs.Frame.{bodyOf}
+use borrow.Author.Needs.{needs}
 use Rattle.pattern.proofs.frame.body.Statement.{statement}
 use Rattle.pattern.proofs.frame.body.Tie as tie
 

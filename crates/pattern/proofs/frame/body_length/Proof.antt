@@ -1,6 +1,6 @@
 -- `pattern::frame::body_length`: the two-byte number at 2.
-use borrow.Author.Needs.{needs}
 use Rattle.pattern.specs.Frame.{bodyLength}
+use borrow.Author.Needs.{needs}
 use Rattle.pattern.proofs.frame.body_length.Statement.{statement}
 use Rattle.pattern.proofs.frame.body_length.Tie as tie
 

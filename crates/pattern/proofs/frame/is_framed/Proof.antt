@@ -1,6 +1,6 @@
 -- `pattern::frame::is_framed`: each test is the one that the definition makes.
-use borrow.Author.Needs.{needs}
 use Rattle.pattern.specs.Frame.{framed}
+use borrow.Author.Needs.{needs}
 use Rattle.pattern.proofs.frame.is_framed.Statement.{statement}
 use Rattle.pattern.proofs.frame.is_framed.Tie as tie
 
@@ -24,6 +24,4 @@ unfolding framed
 returns c = rw (c .before .before .byte .ensures, c .before .byte2 .ensures, c .body-length .ensures)
 
 pub is-framed-spec : {M : Type 1} → statement M
-is-framed-spec =
-    tie.close
-    (tie.spec byte-requires byte-requires-2 body-length-requires cast-result add-result returns)
+is-framed-spec = tie.close (tie.spec byte-requires byte-requires-2 body-length-requires cast-result add-result returns)

@@ -1,7 +1,7 @@
 -- `pattern::image::ends_in_zero`: an empty body has no last byte.
 use borrow.Author.Tests.{eq-eqb, ne-eqb}
-use borrow.Author.Needs.{needs}
 use Rattle.pattern.specs.Image.{endsInZero}
+use borrow.Author.Needs.{needs}
 use Rattle.pattern.proofs.image.ends_in_zero.Statement.{statement}
 use Rattle.pattern.proofs.image.ends_in_zero.Tie as tie
 

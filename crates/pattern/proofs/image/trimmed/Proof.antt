@@ -1,7 +1,7 @@
 -- `pattern::image::trimmed`: the trimmed image is a front of the image.
 use denote.Ref.{now}
-use borrow.Author.Needs.{needs}
 use Rattle.pattern.specs.ImageLaws.{trim-front}
+use borrow.Author.Needs.{needs}
 use Rattle.pattern.proofs.image.trimmed.Statement.{statement}
 use Rattle.pattern.proofs.image.trimmed.Tie as tie
 

@@ -27,4 +27,11 @@ returns-2 c = rw (← c .before .before .before .read .ensures, c .before .enum-
 pub accepted-body-spec : {M : Type 1} → statement M
 accepted-body-spec =
     tie.close
-    (tie.spec read-requires enum-told enum-told-2 front-requires returns body-requires returns-2)
+    (tie.spec
+    read-requires
+    enum-told
+    enum-told-2
+    front-requires
+    returns
+    body-requires
+    returns-2)

@@ -1,8 +1,8 @@
 -- `pattern::reader::code`: each return is the first condition that holds.
 use borrow.Author.Tests.{lt-ltb, le-ltb}
-use borrow.Author.Needs.{needs}
 use Rattle.pattern.specs.Refusals.{unless}
 use Rattle.pattern.specs.Reader.{codeConditions}
+use borrow.Author.Needs.{needs}
 use Rattle.pattern.proofs.reader.code.Statement.{statement}
 use Rattle.pattern.proofs.reader.code.Tie as tie
 

@@ -1,6 +1,6 @@
 -- `pattern::reader::code_body`: `PC` stands behind two records.
-use borrow.Author.Needs.{needs}
 use Rattle.pattern.specs.Reader.{codeOf}
+use borrow.Author.Needs.{needs}
 use Rattle.pattern.proofs.reader.code_body.Statement.{statement}
 use Rattle.pattern.proofs.reader.code_body.Tie as tie
 
@@ -18,6 +18,4 @@ unfolding codeOf
 returns c = rw (c .accepted-body .ensures, c .before .after-record2 .ensures, c .before .before .after-record .ensures)
 
 pub code-body-spec : {M : Type 1} → statement M
-code-body-spec =
-    tie.close
-    (tie.spec after-record-requires after-record-requires-2 accepted-body-requires returns)
+code-body-spec = tie.close (tie.spec after-record-requires after-record-requires-2 accepted-body-requires returns)

@@ -1,8 +1,8 @@
 -- `pattern::reader::end`: each return is the first condition that holds.
 use borrow.Author.Tests.{lt-ltb, le-ltb}
-use borrow.Author.Needs.{needs}
 use Rattle.pattern.specs.Refusals.{unless}
 use Rattle.pattern.specs.Reader.{endConditions}
+use borrow.Author.Needs.{needs}
 use Rattle.pattern.proofs.reader.end.Statement.{statement}
 use Rattle.pattern.proofs.reader.end.Tie as tie
 

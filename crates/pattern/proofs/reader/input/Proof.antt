@@ -1,8 +1,8 @@
 -- `pattern::reader::input`: each return is the first condition that holds.
 use borrow.Author.Tests.{lt-ltb, le-ltb}
-use borrow.Author.Needs.{needs}
 use Rattle.pattern.specs.Refusals.{unless}
 use Rattle.pattern.specs.Reader.{inputConditions}
+use borrow.Author.Needs.{needs}
 use Rattle.pattern.proofs.reader.input.Statement.{statement}
 use Rattle.pattern.proofs.reader.input.Tie as tie
 
@@ -25,5 +25,4 @@ unfolding unless inputConditions
 returns-3 c = simp (← c .before .before .before .before .is-framed .ensures, c .before .before .before .if1 .left, ← c .before .before .body-length .ensures, le-ltb _ _ (c .if2 .left))
 
 pub input-spec : {M : Type 1} → statement M
-input-spec =
-    tie.close (tie.spec is-framed-requires returns body-length-requires returns-2 returns-3)
+input-spec = tie.close (tie.spec is-framed-requires returns body-length-requires returns-2 returns-3)

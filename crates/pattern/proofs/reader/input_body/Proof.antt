@@ -1,6 +1,6 @@
 -- `pattern::reader::input_body`: `PI` stands behind three records.
-use borrow.Author.Needs.{needs}
 use Rattle.pattern.specs.Reader.{inputOf}
+use borrow.Author.Needs.{needs}
 use Rattle.pattern.proofs.reader.input_body.Statement.{statement}
 use Rattle.pattern.proofs.reader.input_body.Tie as tie
 

@@ -1,7 +1,7 @@
 -- `pattern::reader::partition`: each return is the first condition that holds.
-use borrow.Author.Needs.{needs}
 use Rattle.pattern.specs.Refusals.{unless}
 use Rattle.pattern.specs.Reader.{partitionConditions}
+use borrow.Author.Needs.{needs}
 use Rattle.pattern.proofs.reader.partition.Statement.{statement}
 use Rattle.pattern.proofs.reader.partition.Tie as tie
 
@@ -27,6 +27,4 @@ unfolding unless partitionConditions
 returns-3 c = simp (← c .before .before .before .before .is-fixed .ensures, c .before .before .before .if1 .left, ← c .before .before .values-in .ensures, ← c .before .in-range .ensures, c .if2 .left)
 
 pub partition-spec : {M : Type 1} → statement M
-partition-spec =
-    tie.close
-    (tie.spec is-fixed-requires returns values-in-requires in-range-requires returns-2 returns-3)
+partition-spec = tie.close (tie.spec is-fixed-requires returns values-in-requires in-range-requires returns-2 returns-3)

@@ -1,8 +1,8 @@
 -- `pattern::reader::read`: a refused record ends the reading, an accepted one leaves it to the next (Reading.antt).
 use mathlib.Core.Path.{sym, _∙_}
-use borrow.Author.Needs.{needs}
 use Rattle.pattern.specs.Reader.{readOf}
 use Rattle.pattern.proofs.Reading.{stops, after-version, after-partition, after-code, after-input}
+use borrow.Author.Needs.{needs}
 use Rattle.pattern.proofs.reader.read.Statement.{statement}
 use Rattle.pattern.proofs.reader.read.Tie as tie
 

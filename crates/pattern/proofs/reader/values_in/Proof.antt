@@ -1,6 +1,6 @@
 -- `pattern::reader::values_in`: each value is read where the definition reads it.
-use borrow.Author.Needs.{needs}
 use Rattle.pattern.specs.Reader.{valuesIn}
+use borrow.Author.Needs.{needs}
 use Rattle.pattern.proofs.reader.values_in.Statement.{statement}
 use Rattle.pattern.proofs.reader.values_in.Tie as tie
 
@@ -26,4 +26,10 @@ returns c = rw (c .before .before .before .before .word .ensures, c .before .bef
 pub values-in-spec : {M : Type 1} → statement M
 values-in-spec =
     tie.close
-    (tie.spec word-requires word-requires-2 word-requires-3 word-requires-4 byte-requires returns)
+    (tie.spec
+    word-requires
+    word-requires-2
+    word-requires-3
+    word-requires-4
+    byte-requires
+    returns)

@@ -1,8 +1,8 @@
 -- `pattern::reader::version`: each return is the first condition that holds.
 use borrow.Author.Tests.{eq-eqb, ne-eqb}
-use borrow.Author.Needs.{needs}
 use Rattle.pattern.specs.Refusals.{unless}
 use Rattle.pattern.specs.Reader.{versionConditions}
+use borrow.Author.Needs.{needs}
 use Rattle.pattern.proofs.reader.version.Statement.{statement}
 use Rattle.pattern.proofs.reader.version.Tie as tie
 

@@ -1,6 +1,6 @@
 -- `pattern::values::in_range`: each test is the one that the definition makes.
-use borrow.Author.Needs.{needs}
 use Rattle.pattern.specs.Values.{inRange}
+use borrow.Author.Needs.{needs}
 use Rattle.pattern.proofs.values.in_range.Statement.{statement}
 use Rattle.pattern.proofs.values.in_range.Tie as tie
 

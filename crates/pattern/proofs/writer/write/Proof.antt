@@ -5,12 +5,12 @@ use native.Mathlib.Omega.{arith}
 use lib.ListN.{length}
 use denote.Ref.{now}
 use borrow.Author.Tests.{lt-ltb, le-ltb, eq-eqb, ne-eqb, not-false}
-use borrow.Author.Needs.{needs}
 use Rattle.pattern.specs.Refusals.{unless}
 use Rattle.pattern.specs.Image.{trim}
 use Rattle.pattern.specs.Writer.{fileOf, writeOf, writeConditions}
 use Rattle.pattern.specs.WriterLaws.{file-length}
 use Rattle.pattern.proofs.Writing.{refused-leaves, accepted-puts}
+use borrow.Author.Needs.{needs}
 use Rattle.pattern.proofs.writer.write.Statement.{statement}
 use Rattle.pattern.proofs.writer.write.Tie as tie
 

@@ -1,8 +1,8 @@
 -- `scripts::crc::crc32`: safe and ends: each turn passes a byte.
-use borrow.Author.Needs.{needs}
 use Prim.Native.Nat.{_-_}
 use native.Mathlib.Omega.{arith}
 use lib.ListN.{length}
+use borrow.Author.Needs.{needs}
 use Rattle.scripts.proofs.crc.crc32.Statement.{statement}
 use Rattle.scripts.proofs.crc.crc32.Tie as tie
 

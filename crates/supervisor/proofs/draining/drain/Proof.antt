@@ -2,7 +2,6 @@
 use mathlib.Core.Path.{_∙_}
 use native.Mathlib.Omega.{arith}
 use lib.ListN.{length}
-use borrow.Author.Needs.{needs}
 use borrow.Author.Tests.{eq-eqb, ne-eqb}
 use denote.Ref.{now}
 use Rattle.supervisor.specs.Events.{refusal, effect}
@@ -12,6 +11,7 @@ use Rattle.supervisor.specs.Table.{slotAt, withSlot}
 use Rattle.supervisor.proofs.Accepted.{drain-accepted}
 use Rattle.supervisor.proofs.Drains.{drained-buffer}
 use Rattle.supervisor.proofs.Outcomes.{refused, accepted}
+use borrow.Author.Needs.{needs}
 use Rattle.supervisor.proofs.draining.drain.Statement.{statement}
 use Rattle.supervisor.proofs.draining.drain.Tie as tie
 

@@ -1,12 +1,12 @@
 -- `supervisor::draining::drain_refusal`: the conditions of a taken slot first, then its own (Accepted.antt).
 use mathlib.Core.Path.{sym, _∙_}
 use native.Mathlib.Omega.{arith}
-use borrow.Author.Needs.{needs}
 use borrow.Author.Tests.{lt-ltb, le-ltb}
 use Rattle.pattern.specs.Refusals.{unless}
 use Rattle.supervisor.specs.Operations.{refusalBy}
 use Rattle.supervisor.specs.Table.{slotAt}
 use Rattle.supervisor.proofs.Accepted.{unload-accepted, drain-stops, drain-goes}
+use borrow.Author.Needs.{needs}
 use Rattle.supervisor.proofs.draining.drain_refusal.Statement.{statement}
 use Rattle.supervisor.proofs.draining.drain_refusal.Tie as tie
 
@@ -43,4 +43,11 @@ returns-3 c =
 pub drain-refusal-spec : {M : Type 1} → statement M
 drain-refusal-spec =
     tie.close
-    (tie.spec slot-refusal-requires returns mul-s element-copy-out-s cast-if2 returns-2 returns-3)
+    (tie.spec
+    slot-refusal-requires
+    returns
+    mul-s
+    element-copy-out-s
+    cast-if2
+    returns-2
+    returns-3)

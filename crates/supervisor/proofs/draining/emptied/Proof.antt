@@ -1,6 +1,6 @@
 -- `supervisor::draining::emptied`: by what `resumed` ensures.
-use borrow.Author.Needs.{needs}
 use Rattle.supervisor.specs.Operations.{drainedState}
+use borrow.Author.Needs.{needs}
 use Rattle.supervisor.proofs.draining.emptied.Statement.{statement}
 use Rattle.supervisor.proofs.draining.emptied.Tie as tie
 

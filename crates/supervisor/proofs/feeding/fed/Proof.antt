@@ -1,6 +1,6 @@
 -- `supervisor::feeding::fed`: by what `resumed` ensures.
-use borrow.Author.Needs.{needs}
 use Rattle.supervisor.specs.Operations.{fedState}
+use borrow.Author.Needs.{needs}
 use Rattle.supervisor.proofs.feeding.fed.Statement.{statement}
 use Rattle.supervisor.proofs.feeding.fed.Tie as tie
 

@@ -1,6 +1,5 @@
 -- `supervisor::feeding::feed`: an accepted call names one of the eight slots, and its bytes fit the input buffer (Accepted.antt).
 use native.Mathlib.Omega.{arith}
-use borrow.Author.Needs.{needs}
 use denote.Ref.{now}
 use Rattle.supervisor.specs.Events.{refusal, effect}
 use Rattle.supervisor.specs.Events as events
@@ -8,6 +7,7 @@ use Rattle.supervisor.specs.Operations.{afterFeed}
 use Rattle.supervisor.specs.Table.{slotAt, withSlot}
 use Rattle.supervisor.proofs.Accepted.{feed-accepted, input-small}
 use Rattle.supervisor.proofs.Outcomes.{refused, accepted}
+use borrow.Author.Needs.{needs}
 use Rattle.supervisor.proofs.feeding.feed.Statement.{statement}
 use Rattle.supervisor.proofs.feeding.feed.Tie as tie
 

@@ -1,13 +1,13 @@
 -- `supervisor::feeding::feed_refusal`: the conditions of a taken slot first, then its own (Accepted.antt).
 use mathlib.Core.Path.{sym, _∙_}
 use native.Mathlib.Omega.{arith}
-use borrow.Author.Needs.{needs}
 use borrow.Author.Tests.{lt-ltb, le-ltb}
 use denote.Ref.{now}
 use Rattle.pattern.specs.Refusals.{unless}
 use Rattle.supervisor.specs.Operations.{refusalBy}
 use Rattle.supervisor.specs.Table.{slotAt}
 use Rattle.supervisor.proofs.Accepted.{unload-accepted, feed-stops, feed-goes}
+use borrow.Author.Needs.{needs}
 use Rattle.supervisor.proofs.feeding.feed_refusal.Statement.{statement}
 use Rattle.supervisor.proofs.feeding.feed_refusal.Tie as tie
 

@@ -1,13 +1,13 @@
 -- `supervisor::loading::load`: the conditions come in the order slot, file, place (Loads.antt), and what is left in two laws for every call (Outcomes.antt).
 use mathlib.Core.Path.{sym, _∙_}
 use native.Mathlib.Omega.{arith}
-use borrow.Author.Needs.{needs}
 use denote.Ref.{now}
 use Rattle.supervisor.specs.Events.{refusal, effect}
 use Rattle.supervisor.specs.Events as events
 use Rattle.supervisor.specs.Operations.{system, partitionFor}
 use Rattle.supervisor.proofs.Loads.{load-stops, load-refused, load-places, free-accepted, place-inside}
 use Rattle.supervisor.proofs.Outcomes.{refused, accepted}
+use borrow.Author.Needs.{needs}
 use Rattle.supervisor.proofs.loading.load.Statement.{statement}
 use Rattle.supervisor.proofs.loading.load.Tie as tie
 

@@ -4,11 +4,11 @@ use mathlib.Core.List.{List}
 use mathlib.Core.Path.{ap}
 use native.Mathlib.Omega.{arith}
 use lib.ListN.{length}
-use borrow.Author.Needs.{needs}
 use denote.Ref.{now}
 use Rattle.pattern.specs.ReaderLaws.{accepted-passes, code-fits, input-fits, read-ranges}
 use Rattle.supervisor.specs.Operations.{partitionFor, loadedBytes, afterLoad}
 use Rattle.supervisor.specs.Table.{withSlot}
+use borrow.Author.Needs.{needs}
 use Rattle.supervisor.proofs.loading.loaded.Statement.{statement}
 use Rattle.supervisor.proofs.loading.loaded.Tie as tie
 

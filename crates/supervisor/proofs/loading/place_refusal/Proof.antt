@@ -3,11 +3,11 @@ use Prim.Native.Nat.{_+_}
 use mathlib.Core.Bool.{true, false}
 use mathlib.Core.Path.{_≡_, sym, ap, _∙_}
 use native.Mathlib.Omega.{arith}
-use borrow.Author.Needs.{needs}
 use borrow.Author.Tests.{lt-ltb, le-ltb, not-true, not-false}
 use Rattle.pattern.specs.Refusals.{unless}
 use Rattle.supervisor.specs.Operations.{partitionFor, refusalBy}
 use Rattle.supervisor.specs.Table.{clearOf}
+use borrow.Author.Needs.{needs}
 use Rattle.supervisor.proofs.loading.place_refusal.Statement.{statement}
 use Rattle.supervisor.proofs.loading.place_refusal.Tie as tie
 

@@ -3,9 +3,9 @@ use Prim.Native.Nat.{_-_}
 use mathlib.Core.Path.{refl}
 use native.Mathlib.Omega.{arith}
 use lib.ListN.{length, replicate, length-replicate}
-use borrow.Author.Needs.{needs}
 use denote.Ref.{now}
 use Rattle.slices.specs.Laws.{copied-next}
+use borrow.Author.Needs.{needs}
 use Rattle.supervisor.proofs.loading.put_padded.Statement.{statement}
 use Rattle.supervisor.proofs.loading.put_padded.Tie as tie
 
@@ -30,5 +30,4 @@ returns c =
     copied-next (now (start .memory)) _ _ (start .at) _ (now (start .bytes)) (replicate (start .n - length (now (start .bytes))) 0) (c .before .before .before .before .before .before .copy .ensures) (c .before .before .fill .ensures) refl (simp length-replicate (omega arith))
 
 pub put-padded-spec : {M : Type 1} → statement M
-put-padded-spec =
-    tie.close (tie.spec copy-requires add-fill sub-fill fill-requires same-length returns)
+put-padded-spec = tie.close (tie.spec copy-requires add-fill sub-fill fill-requires same-length returns)

@@ -2,10 +2,10 @@
 use Prim.Native.Nat.{ℕ}
 use native.Mathlib.Omega.{arith}
 use lib.ListN.{replicate, length-replicate}
-use borrow.Author.Needs.{needs}
 use denote.Ref.{now}
 use Rattle.pattern.specs.Image.{padded}
 use Rattle.supervisor.proofs.Loads.{padded-length, three-parts}
+use borrow.Author.Needs.{needs}
 use Rattle.supervisor.proofs.loading.put_pattern.Statement.{statement}
 use Rattle.supervisor.proofs.loading.put_pattern.Tie as tie
 

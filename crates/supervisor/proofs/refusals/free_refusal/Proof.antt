@@ -1,12 +1,12 @@
 -- `supervisor::refusals::free_refusal`: the conditions of table and memory first (Loads.antt).
 use mathlib.Core.Path.{sym, _∙_}
 use native.Mathlib.Omega.{arith}
-use borrow.Author.Needs.{needs}
 use borrow.Author.Tests.{eq-eqb, ne-eqb, lt-ltb, le-ltb}
 use Rattle.pattern.specs.Refusals.{unless}
 use Rattle.supervisor.specs.Operations.{refusalBy}
 use Rattle.supervisor.specs.Table.{slotAt}
 use Rattle.supervisor.proofs.Loads.{free-stops, free-goes}
+use borrow.Author.Needs.{needs}
 use Rattle.supervisor.proofs.refusals.free_refusal.Statement.{statement}
 use Rattle.supervisor.proofs.refusals.free_refusal.Tie as tie
 

@@ -1,8 +1,8 @@
 -- `supervisor::refusals::table_refusal`: the conditions in the order of the table.
-use borrow.Author.Needs.{needs}
 use borrow.Author.Tests.{eq-eqb, ne-eqb, not-true, not-false}
 use Rattle.pattern.specs.Refusals.{unless}
 use Rattle.supervisor.specs.Operations.{refusalBy, runRefusal}
+use borrow.Author.Needs.{needs}
 use Rattle.supervisor.proofs.refusals.table_refusal.Statement.{statement}
 use Rattle.supervisor.proofs.refusals.table_refusal.Tie as tie
 

@@ -1,10 +1,10 @@
 -- `supervisor::reporting::report`: a sound table keeps PSU below 128, so that Sense can be added (Accepted.antt).
 use native.Mathlib.Omega.{arith}
-use borrow.Author.Needs.{needs}
 use borrow.Author.Tests.{eq-eqb, ne-eqb}
 use Rattle.supervisor.specs.Operations.{reportOf}
 use Rattle.supervisor.specs.Table.{slotAt}
 use Rattle.supervisor.proofs.Accepted.{report-accepted, psu-small}
+use borrow.Author.Needs.{needs}
 use Rattle.supervisor.proofs.reporting.report.Statement.{statement}
 use Rattle.supervisor.proofs.reporting.report.Tie as tie
 
@@ -37,6 +37,4 @@ returns-2 c =
     rw (← c .before .before .before .before .before .before .report-refusal .ensures, eq-eqb _ _ (c .before .before .before .before .before .if1 .left), c .sensed .ensures)
 
 pub report-spec : {M : Type 1} → statement M
-report-spec =
-    tie.close
-    (tie.spec report-refusal-requires returns mul-s element-copy-out-s sensed-requires returns-2)
+report-spec = tie.close (tie.spec report-refusal-requires returns mul-s element-copy-out-s sensed-requires returns-2)

@@ -1,10 +1,10 @@
 -- `supervisor::reporting::report_refusal`: the conditions in the order of the table.
 use native.Mathlib.Omega.{arith}
-use borrow.Author.Needs.{needs}
 use borrow.Author.Tests.{eq-eqb, ne-eqb, lt-ltb, le-ltb, not-true, not-false}
 use Rattle.pattern.specs.Refusals.{unless}
 use Rattle.supervisor.specs.Operations.{refusalBy, reportRefusal}
 use Rattle.supervisor.specs.Table.{slotAt}
+use borrow.Author.Needs.{needs}
 use Rattle.supervisor.proofs.reporting.report_refusal.Statement.{statement}
 use Rattle.supervisor.proofs.reporting.report_refusal.Tie as tie
 

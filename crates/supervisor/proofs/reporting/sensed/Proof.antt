@@ -1,6 +1,6 @@
 -- `supervisor::reporting::sensed`: by its two branches.
-use borrow.Author.Needs.{needs}
 use borrow.Author.Tests.{lt-ltb, le-ltb}
+use borrow.Author.Needs.{needs}
 use Rattle.supervisor.proofs.reporting.sensed.Statement.{statement}
 use Rattle.supervisor.proofs.reporting.sensed.Tie as tie
 

@@ -1,70 +1,53 @@
 use Rattle.supervisor.proofs.RoundLaws.{quantum-state, quantum-memory}
 use Rattle.supervisor.specs.Table.{bytesIn, endOf}
 use Rattle.slices.specs.Laws.{part-length}
-use Prim.Native.Nat.{ℕ, _+_, _-_, _≤_}
+use Prim.Native.Nat.{_+_, _-_, _≤_}
 use mathlib.Core.Path.{_≡_, sym, _∙_}
 use native.Mathlib.Omega.{arith}
 use lib.ListN.{length}
 use borrow.Author.Needs.{needs}
 use Rattle.supervisor.proofs.running.quantum.Statement.{statement}
 use Rattle.supervisor.proofs.running.quantum.Tie as tie
-use Rattle.supervisor.proofs.running.quantum.Reads as reads
-use Rattle.supervisor.proofs.running.quantum.Lts as lts
-use Rattle.cpu.proofs.run.Reads as run-reads
 
--- src/run.rt:21:16
 cast-base : tie.Need-cast-base
 cast-base c = search needs
 
--- src/run.rt:22:22
 cast-end : tie.Need-cast-end
 cast-end c = search needs
 
--- src/run.rt:22:15
 add-end : tie.Need-add-end
 add-end c = search needs
 
--- src/run.rt:22:42
 cast-end-2 : tie.Need-cast-end-2
 cast-end-2 c = search needs
 
--- src/run.rt:22:15
 add-end-2 : tie.Need-add-end-2
 add-end-2 c = search needs
 
--- src/run.rt:22:61
 cast-end-3 : tie.Need-cast-end-3
 cast-end-3 c = search needs
 
--- src/run.rt:22:15
 add-end-3 : tie.Need-add-end-3
 add-end-3 c = search needs
 
--- src/run.rt:28:17
 sub-run : tie.Need-sub-run
 sub-run c = search needs
 
--- src/run.rt:28:17
 part-run-start : tie.Need-part-run-start
 part-run-start c = search needs
 
--- src/run.rt:28:17
 part-run-end : tie.Need-part-run-end
 part-run-end c = search needs
 
--- src/run.rt:28:48
 cast-run : tie.Need-cast-run
 cast-run c = search needs
 
--- src/run.rt:28:5
 run-requires : tie.Need-run-requires
 run-requires c κs = search needs
 
--- src/run.rt:14:1
 same-length : tie.Need-same-length
 same-length c = search needs
 
--- src/run.rt:14:1
 returns : tie.Need-returns
 returns c = let a = c .before .before .before .before .before .before .before .before .before .before .before .before .args in
     let p = a .slot .partition in

@@ -4,16 +4,13 @@ use Rattle.supervisor.specs.Operations.{System, system, turns}
 use Rattle.supervisor.specs.Rounds.{slot-inside}
 use Rattle.supervisor.specs.Table.{slotAt, withSlot}
 use Rattle.cpu.specs.Machine.{times}
-use Prim.Native.Nat.{ℕ, _-_, _≤_, _<_}
+use Prim.Native.Nat.{_-_, _≤_, _<_}
 use mathlib.Core.Path.{_≡_, refl, ap, _∙_}
 use mathlib.Core.Logic.{⊎-elim}
 use native.Mathlib.Omega.{arith}
 use lib.ListN.{length}
 use Rattle.supervisor.proofs.running.rounds.Statement.{statement}
 use Rattle.supervisor.proofs.running.rounds.Tie as tie
-use Rattle.supervisor.proofs.running.rounds.Reads as reads
-use Rattle.supervisor.proofs.running.rounds.Lts as lts
-use Rattle.supervisor.proofs.running.quantum.Reads as quantum-reads
 
 abbrev Inv-loop2 : tie.InvT-loop2
 Inv-loop2 memory₀ count next₀ c k₀ memory next k = (k ≤ 8) × (length memory ≡ length memory₀) × (system next memory ≡ turns k (system next₀ memory₀))
@@ -27,23 +24,18 @@ Inv-loop memory₀ count next₀ c₀ memory next c = (c ≤ count) × (length m
 abbrev μ-loop : tie.MeasureT-loop
 μ-loop memory₀ count next₀ c₀ memory next c = count - c
 
--- src/run.rt:39:5
 loop-holds : tie.Need-loop-holds Inv-loop2 μ-loop2 Inv-loop μ-loop
 loop-holds c = (omega arith, refl, rounds-zero _)
 
--- src/run.rt:41:9
 loop2-holds : tie.Need-loop2-holds Inv-loop2 μ-loop2 Inv-loop μ-loop
 loop2-holds c = (omega arith, refl, turns-zero _)
 
--- src/run.rt:42:21
 mul-s : tie.Need-mul-s Inv-loop2 μ-loop2 Inv-loop μ-loop
 mul-s c = omega arith
 
--- src/run.rt:42:21
 element-copy-out-s : tie.Need-element-copy-out-s Inv-loop2 μ-loop2 Inv-loop μ-loop
 element-copy-out-s c = omega arith
 
--- src/run.rt:46:21
 quantum-requires : tie.Need-quantum-requires Inv-loop2 μ-loop2 Inv-loop μ-loop
 unfolding slotAt
 quantum-requires c κs = let outer = c .before .before .before .before .before .before .before .loop in
@@ -54,23 +46,18 @@ quantum-requires c κs = let outer = c .before .before .before .before .before .
     let i = turns-good (inner .k) _ (system (inner .next) (inner .memory)) (inner .inv .0) o (inner .inv .2) in
     slot-inside (system (inner .next) (inner .memory)) i (inner .k) (omega arith)
 
--- src/run.rt:47:17
 mul-t20 : tie.Need-mul-t20 Inv-loop2 μ-loop2 Inv-loop μ-loop
 mul-t20 c = omega arith
 
--- src/run.rt:47:17
 element-set-from-next : tie.Need-element-set-from-next Inv-loop2 μ-loop2 Inv-loop μ-loop
 element-set-from-next c = omega arith
 
--- src/run.rt:49:13
 add-k : tie.Need-add-k Inv-loop2 μ-loop2 Inv-loop μ-loop
 add-k c = omega arith
 
--- src/run.rt:41:9
 loop2-less : tie.Need-loop2-less Inv-loop2 μ-loop2 Inv-loop μ-loop
 loop2-less c = omega arith
 
--- src/run.rt:41:9
 loop2-again : tie.Need-loop2-again Inv-loop2 μ-loop2 Inv-loop μ-loop
 unfolding slotAt withSlot
 loop2-again c = let outer = c .before .before .before .before .before .loop in
@@ -98,23 +85,18 @@ loop2-again c = let outer = c .before .before .before .before .before .loop in
     ))
     (c .if1 .came)
 
--- src/run.rt:51:9
 add-c : tie.Need-add-c Inv-loop2 μ-loop2 Inv-loop μ-loop
 add-c c = omega (arith, c .before .before .before .before .before .fits .count .fits)
 
--- src/run.rt:39:5
 loop-less : tie.Need-loop-less Inv-loop2 μ-loop2 Inv-loop μ-loop
 loop-less c = omega arith
 
--- src/run.rt:39:5
 loop-again : tie.Need-loop-again Inv-loop2 μ-loop2 Inv-loop μ-loop
 loop-again c = (omega arith, c .before .loop2 .inv .1 ∙ c .before .before .before .loop .inv .1, rounds-more (c .before .before .before .loop .c) (c .before .loop2 .k) _ _ _ (omega arith) (c .before .before .before .loop .inv .2) (c .before .loop2 .inv .2))
 
--- src/run.rt:32:1
 same-length : tie.Need-same-length Inv-loop2 μ-loop2 Inv-loop μ-loop
 same-length c = c .before .loop .inv .1
 
--- src/run.rt:32:1
 returns : tie.Need-returns Inv-loop2 μ-loop2 Inv-loop μ-loop
 returns c = rounds-done (c .before .loop .c) _ _ _ (omega arith) (c .before .loop .inv .2)
 

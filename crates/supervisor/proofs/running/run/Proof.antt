@@ -6,36 +6,24 @@ use mathlib.Core.Path.{_∙_}
 use borrow.Author.Needs.{needs}
 use Rattle.supervisor.proofs.running.run.Statement.{statement}
 use Rattle.supervisor.proofs.running.run.Tie as tie
-use Rattle.supervisor.proofs.running.run.Reads as reads
-use Rattle.supervisor.proofs.running.run.Lts as lts
-use Rattle.supervisor.proofs.refusals.table_refusal.Reads as table-refusal-reads
-use Rattle.supervisor.proofs.running.rounds.Reads as rounds-reads
 
--- src/running.rt:64:9
 table-refusal-requires : tie.Need-table-refusal-requires
 table-refusal-requires c κs = search needs
 
--- src/running.rt:66:9
 same-length : tie.Need-same-length
 same-length c = search needs
 
--- src/running.rt:66:9
 returns : tie.Need-returns
 returns c = refused (events.run (c .before .before .before .before .args .count)) (system (c .before .before .before .before .args .table) (c .before .before .before .before .args .memory .now)) (c .before .table-refusal .ensures ∙ run-number _ _) (c .if1 .taken)
 
--- src/running.rt:71:9
 rounds-requires : tie.Need-rounds-requires
 rounds-requires c κs = run-ready _ (c .before .before .table-refusal .ensures) (c .before .if1 .left)
 
--- src/running.rt:61:1
 same-length-2 : tie.Need-same-length-2
 same-length-2 c = search needs
 
--- src/running.rt:61:1
 returns-2 : tie.Need-returns-2
 returns-2 c = accepted (events.run (c .before .before .before .before .before .before .before .before .args .count)) (system (c .before .before .before .before .before .before .before .before .args .table) (c .before .before .before .before .before .before .before .before .args .memory .now)) _ _ (c .before .before .before .before .before .table-refusal .ensures ∙ run-number _ _) (c .before .before .before .before .if1 .left) (c .before .before .rounds .ensures ∙ run-effect _ _)
 
 pub run-spec : {M : Type 1} → statement M
-run-spec =
-    tie.close
-    (tie.spec table-refusal-requires same-length returns rounds-requires same-length-2 returns-2)
+run-spec = tie.close (tie.spec table-refusal-requires same-length returns rounds-requires same-length-2 returns-2)

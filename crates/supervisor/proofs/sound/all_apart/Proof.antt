@@ -3,10 +3,10 @@ use Prim.Native.Nat.{ℕ, _≤_, _-_}
 use mathlib.Core.Bool.{Bool}
 use mathlib.Core.Path.{_≡_}
 use native.Mathlib.Omega.{arith}
-use borrow.Author.Needs.{needs}
 use Rattle.supervisor.specs.Table.{allBelow, slotAt, clearOf}
 use Rattle.supervisor.specs.declared.table.Table.{Table}
 use Rattle.supervisor.proofs.All.{all-none, all-more, all-done}
+use borrow.Author.Needs.{needs}
 use Rattle.supervisor.proofs.sound.all_apart.Statement.{statement}
 use Rattle.supervisor.proofs.sound.all_apart.Tie as tie
 
@@ -53,4 +53,14 @@ returns c =
 pub all-apart-spec : {M : Type 1} → statement M
 all-apart-spec =
     tie.close
-    (tie.spec Inv-loop μ-loop loop-holds mul-s element-copy-out-s clear-of-requires add-k loop-less loop-again returns)
+    (tie.spec
+    Inv-loop
+    μ-loop
+    loop-holds
+    mul-s
+    element-copy-out-s
+    clear-of-requires
+    add-k
+    loop-less
+    loop-again
+    returns)

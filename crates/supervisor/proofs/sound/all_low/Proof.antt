@@ -6,10 +6,10 @@ use mathlib.Core.Path.{_≡_, refl}
 use native.Mathlib.Omega.{arith}
 use lib.Dec.{ltb}
 use lib.ListN.{length, getD}
-use borrow.Author.Needs.{needs}
 use denote.Ref.{now}
 use Rattle.supervisor.specs.Table.{allBelow, allLow}
 use Rattle.supervisor.proofs.All.{all-none, all-more, all-done}
+use borrow.Author.Needs.{needs}
 use Rattle.supervisor.proofs.sound.all_low.Statement.{statement}
 use Rattle.supervisor.proofs.sound.all_low.Tie as tie
 
@@ -52,4 +52,13 @@ returns c =
 pub all-low-spec : {M : Type 1} → statement M
 all-low-spec =
     tie.close
-    (tie.spec Inv-loop μ-loop loop-holds mul-ok shared-slice-read-ok add-i loop-less loop-again returns)
+    (tie.spec
+    Inv-loop
+    μ-loop
+    loop-holds
+    mul-ok
+    shared-slice-read-ok
+    add-i
+    loop-less
+    loop-again
+    returns)

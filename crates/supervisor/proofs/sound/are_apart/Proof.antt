@@ -1,6 +1,6 @@
 -- `supervisor::sound::are_apart`: in the shape of its definition.
-use borrow.Author.Needs.{needs}
 use Rattle.supervisor.specs.Table.{apart}
+use borrow.Author.Needs.{needs}
 use Rattle.supervisor.proofs.sound.are_apart.Statement.{statement}
 use Rattle.supervisor.proofs.sound.are_apart.Tie as tie
 

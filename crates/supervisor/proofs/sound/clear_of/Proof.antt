@@ -4,11 +4,11 @@ use mathlib.Core.Bool.{Bool, _||_}
 use mathlib.Core.Path.{_≡_, ap}
 use native.Mathlib.Omega.{arith}
 use lib.Dec.{eqb}
-use borrow.Author.Needs.{needs}
 use Rattle.supervisor.specs.Table.{allBelow, slotAt, apart, clearOf}
 use Rattle.supervisor.specs.declared.table.Partition.{Partition}
 use Rattle.supervisor.specs.declared.table.Table.{Table}
 use Rattle.supervisor.proofs.All.{all-none, all-more, all-done}
+use borrow.Author.Needs.{needs}
 use Rattle.supervisor.proofs.sound.clear_of.Statement.{statement}
 use Rattle.supervisor.proofs.sound.clear_of.Tie as tie
 
@@ -56,4 +56,14 @@ returns c =
 pub clear-of-spec : {M : Type 1} → statement M
 clear-of-spec =
     tie.close
-    (tie.spec Inv-loop μ-loop loop-holds mul-s element-copy-out-s are-apart-requires add-j loop-less loop-again returns)
+    (tie.spec
+    Inv-loop
+    μ-loop
+    loop-holds
+    mul-s
+    element-copy-out-s
+    are-apart-requires
+    add-j
+    loop-less
+    loop-again
+    returns)

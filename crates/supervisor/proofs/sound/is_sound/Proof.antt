@@ -1,10 +1,10 @@
 -- `supervisor::sound::is_sound`: that there are eight slots is known of the array.
 use mathlib.Core.Path.{_≡_, sym, _∙_}
 use lib.ListN.{length, length-map}
-use borrow.Author.Needs.{needs}
 use Rattle.pattern.specs.Values.{within}
 use Rattle.supervisor.specs.Table.{sound}
 use Rattle.supervisor.proofs.All.{and-true}
+use borrow.Author.Needs.{needs}
 use Rattle.supervisor.proofs.sound.is_sound.Statement.{statement}
 use Rattle.supervisor.proofs.sound.is_sound.Tie as tie
 
@@ -28,6 +28,4 @@ returns c =
     rw (e, and-true (within (start .table .size) 65536), c .all-apart .ensures, c .before .all-sound .ensures, c .before .before .is-within .ensures)
 
 pub is-sound-spec : {M : Type 1} → statement M
-is-sound-spec =
-    tie.close
-    (tie.spec cast-is-within is-within-requires all-sound-requires all-apart-requires returns)
+is-sound-spec = tie.close (tie.spec cast-is-within is-within-requires all-sound-requires all-apart-requires returns)

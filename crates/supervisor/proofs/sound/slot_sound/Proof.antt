@@ -1,6 +1,6 @@
 -- `supervisor::sound::slot_sound`: in the shape of its definition.
-use borrow.Author.Needs.{needs}
 use Rattle.supervisor.specs.Table.{slotSound}
+use borrow.Author.Needs.{needs}
 use Rattle.supervisor.proofs.sound.slot_sound.Statement.{statement}
 use Rattle.supervisor.proofs.sound.slot_sound.Tie as tie
 

@@ -1,6 +1,6 @@
 -- `supervisor::sound::state_sound`: in the shape of its definition.
-use borrow.Author.Needs.{needs}
 use Rattle.supervisor.specs.Table.{stateSound}
+use borrow.Author.Needs.{needs}
 use Rattle.supervisor.proofs.sound.state_sound.Statement.{statement}
 use Rattle.supervisor.proofs.sound.state_sound.Tie as tie
 

@@ -1,12 +1,12 @@
 -- `supervisor::unloading::unload`: an accepted call names one of the eight slots (Accepted.antt).
 use native.Mathlib.Omega.{arith}
-use borrow.Author.Needs.{needs}
 use Rattle.supervisor.specs.Events.{refusal, effect}
 use Rattle.supervisor.specs.Events as events
 use Rattle.supervisor.specs.Operations.{afterUnload}
 use Rattle.supervisor.specs.Table.{slotAt, withSlot}
 use Rattle.supervisor.proofs.Accepted.{unload-accepted}
 use Rattle.supervisor.proofs.Outcomes.{refused, accepted}
+use borrow.Author.Needs.{needs}
 use Rattle.supervisor.proofs.unloading.unload.Statement.{statement}
 use Rattle.supervisor.proofs.unloading.unload.Tie as tie
 

@@ -2,12 +2,12 @@
 use mathlib.Core.Bool.{true, false}
 use mathlib.Core.Path.{_≡_, sym, _∙_}
 use native.Mathlib.Omega.{arith}
-use borrow.Author.Needs.{needs}
 use borrow.Author.Tests.{not-true, not-false}
 use Rattle.pattern.specs.Refusals.{unless}
 use Rattle.pattern.specs.Values.{within}
 use Rattle.supervisor.specs.Operations.{refusalBy, newRefusal, newOf}
 use Rattle.supervisor.proofs.Conditions.{within-most}
+use borrow.Author.Needs.{needs}
 use Rattle.supervisor.proofs.table.Table.new.Statement.{statement}
 use Rattle.supervisor.proofs.table.Table.new.Tie as tie
 
@@ -39,12 +39,4 @@ returns-2 c =
     (rw e, rw (c .of-size2 .ensures, e))
 
 pub new-spec : {M : Type 1} → statement M
-new-spec =
-    tie.close
-    (tie.spec
-    is-within-requires
-    of-size-requires
-    returns
-    cast-of-size
-    of-size-requires-2
-    returns-2)
+new-spec = tie.close (tie.spec is-within-requires of-size-requires returns cast-of-size of-size-requires-2 returns-2)
