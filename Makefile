@@ -1,0 +1,19 @@
+# The checks beside the proofs; docs/CONTRIBUTING.md says when to run which. The gate is .ci/run.
+
+# what takes seconds, and fails before a proof begins
+lint:
+	tools/proofkit current
+	tools/unused
+	rt fmt --check
+
+# all but the proofs of the crates: the tools' tests, and the archive beside the reference
+check: lint tools
+	$(MAKE) -C bench check
+
+tools:
+	python3 -B -m unittest discover -s tools/tests
+
+speed differential machines inlined:
+	$(MAKE) -C bench $@
+
+.PHONY: lint check tools speed differential machines inlined
