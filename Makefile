@@ -4,6 +4,7 @@
 lint:
 	tools/proofkit current
 	tools/unused
+	tools/edits
 	rt fmt --check
 
 # all but the proofs of the crates: the tools' tests, and the archive beside the reference

@@ -8,5 +8,5 @@ writing    answers to Proof.antt
 moving     answers carried over to new places after a change of the source
 guessing   a first guess at a proof
 keeping    the commands lift, write and current
-exploring  the commands scaffold, holes, places and auto
+exploring  the commands check, scaffold, places and auto
 """

@@ -8,8 +8,17 @@ import re
 from prooflib.places import base, name_of
 from prooflib.toolchain import listed, read
 
-USES = ("use mathlib.Core.Path.{_∙_, sym, refl}",
-        "use borrow.Author.Tests.{eq-eqb, ne-eqb, lt-ltb, le-ltb, le-leb, lt-leb}")
+USES = {"_∙_": "mathlib.Core.Path", "sym": "mathlib.Core.Path", "refl": "mathlib.Core.Path",
+        "eq-eqb": "borrow.Author.Tests", "ne-eqb": "borrow.Author.Tests"}  # name -> its module
+
+
+def uses(terms):
+    """The `use` lines that guessed terms want."""
+    words, lines = set(" ".join(terms).replace("(", " ").split()), {}
+    for name, module in USES.items():
+        if name.strip("_") in words:
+            lines.setdefault(module, []).append(name)
+    return ["use %s.{%s}" % (module, ", ".join(names)) for module, names in lines.items()]
 
 
 def signatures():

@@ -5,9 +5,11 @@ Needs and things are matched with the old ones by kind, by the things on the way
 import re
 
 from prooflib.answers import DEFAULT, Block
-from prooflib.places import EDGE, need_base
+from prooflib.places import EDGE, name_of, need_base
 
 GONE = "(gone)"  # behind the name of a need that is asked no more
+KINDS = ("if", "t", "match", "loop", "loop-test", "shared-slice-known", "slice-known",
+         "struct-known", "enum-told", "known-told")  # things that are named after no function
 
 
 def align(old, new, score):
@@ -40,6 +42,19 @@ def likeness(a, b):
     return 2.0 * len(align(a, b, lambda i, j: a[i] == b[j])) / (len(a) + len(b))
 
 
+def with_renamed(pairs, old, new, alike):
+    """The pairs, and those of what stands between them on both sides in the same number and alike:
+    a function or a variable that has another name now."""
+    out, (last_i, last_j) = [], (-1, -1)
+    for i, j in pairs + [(len(old), len(new))]:
+        gap = list(zip(range(last_i + 1, i), range(last_j + 1, j)))
+        if i - last_i == j - last_j and all(alike(old[a], new[b]) for a, b in gap):
+            out.extend(gap)
+        out.append((i, j))
+        last_i, last_j = i, j
+    return out[:-1]
+
+
 def matched_needs(old, new):
     """Old need -> new need: one of its own kind, at the likeliest place."""
     kinds = [[need_base(need, set(places.needs)) for need in places.needs] for places in (old, new)]
@@ -48,7 +63,25 @@ def matched_needs(old, new):
     def score(i, j):
         return kinds[0][i] == kinds[1][j] and 0.01 + likeness(keys[0][i], keys[1][j])
 
-    return {old.needs[i]: new.needs[j] for i, j in align(old.needs, new.needs, score)}
+    pairs = with_renamed(align(old.needs, new.needs, score), kinds[0], kinds[1],
+                         lambda a, b: what_is_asked(a) == what_is_asked(b))
+    pairs = dict(pairs)
+    for i in [i for i in range(len(old.needs)) if i not in pairs]:  # arms that changed places
+        free = [j for j in range(len(new.needs)) if j not in pairs.values() and score(i, j)]
+        if free:
+            pairs[i] = max(free, key=lambda j: score(i, j))
+    return {old.needs[i]: new.needs[j] for i, j in pairs.items()}
+
+
+def what_is_asked(kind):
+    """`requires` of any function, `add` of any variable."""
+    return "requires" if kind.endswith("-requires") else kind.split("-")[0]
+
+
+def may_be_renamed(a, b):
+    """Whether two things can be one under two names: calls, their arguments, or variables."""
+    return (a == b or a.endswith("-arg") == b.endswith("-arg")
+            and name_of(a) not in KINDS and name_of(b) not in KINDS)
 
 
 def move(answers, old, new):
@@ -70,29 +103,33 @@ def move(answers, old, new):
 
 
 def move_block(block, goes, old, new, notes):
-    """The blocks that a need's block becomes: needs whose terms come out alike share one."""
-    out = {}
+    """The blocks that a need's block becomes: needs whose terms come out alike share one.
+
+    An answer that nothing asks any more stays in the file, under a name that no need has.
+    """
+    out, gone = {}, []
     for name in block.names:
-        text = block.text
-        if name not in old.trails:  # an answer that was written since, for a need of the new places
-            to = name
-        elif name in goes:
+        if name in old.trails and name not in goes:
+            gone.append(name)
+            continue
+        to, text = name, block.text  # an answer that was written since is for a new need
+        if name in goes:
             to = goes[name]
             text = move_term(text, name, to, old, new, notes)
-        else:
-            to = name + GONE  # a name that no need has: another need may be called NAME now
-            notes.append("%s is asked no more; its answer stays in the file as %s" % (name, to))
-        if text in out:
-            out[text].names.append(to)
-        else:
-            out[text] = Block("need", [to], text, [] if out else block.notes, block.opened)
-    return list(out.values())
+        out.setdefault(text, []).append(to)
+    stays = "" if out else "; its answer stays in the file as %s" % (gone[0] + GONE)
+    notes += ["%s is asked no more%s" % (name, stays) for name in gone]
+    if not out:
+        out[block.text] = [gone[0] + GONE]
+    return [Block("need", names, text, [] if at else block.notes, block.opened)
+            for at, (text, names) in enumerate(out.items())]
 
 
 def move_term(text, need, to, old, new, notes):
     """A term with the new names of its things."""
     here, there, names = old.keys(need), new.keys(to), new.names(to)
-    pairs = dict(align(here, there, lambda i, j: here[i] == there[j]))
+    pairs = align(here, there, lambda i, j: here[i] == there[j])
+    pairs = dict(with_renamed(pairs, here, there, may_be_renamed))
 
     def thing(match):
         name, *way = match.group(2).split(">")
@@ -102,6 +139,8 @@ def move_term(text, need, to, old, new, notes):
         if at not in pairs:
             notes.append("%s: @%s is not on the way any more" % (to, name))
             return match.group(0)
+        if here[at] != there[pairs[at]]:
+            notes.append("%s: @%s has another name now: @%s" % (to, name, names[pairs[at]]))
         for rival in rivals(pairs[at], set(pairs.values()), there):
             notes.append("%s: @%s is taken for @%s; it may be @%s"
                          % (to, name, names[pairs[at]], names[rival]))

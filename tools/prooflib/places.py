@@ -10,7 +10,7 @@ import hashlib
 import os
 import re
 
-from prooflib.toolchain import generated_file, put, read
+from prooflib.toolchain import Stop, generated_file, put, read
 
 ENTRY = ("args", "fits", "good", "pre", "blocks", "κs")  # what the record at the entry holds
 EDGE = r"[^\s(){}\[\],;]"  # a character of a name: all but spaces and brackets
@@ -171,7 +171,7 @@ def read_records(lts):
     records = {}
     for name, body in re.findall(r"\n *pub record (\S+) : [^\n]*where\n((?: +[^\n]*\n)+)", lts):
         indent = re.match(r" +", body).group(0)
-        field = r"(?m)^%spub (\S+) : ([^\s]+)((?:.*\n(?:%s +.*\n)*))" % (indent, indent)
+        field = r"(?m)^%spub (\S+) : (\S+)(.*\n(?:(?!%spub ).*\n)*)" % (indent, indent)
         records[name] = re.findall(field, body)
     return records
 
@@ -290,12 +290,25 @@ def places_file(crate):
     return "crates/%s/answers/PLACES" % crate
 
 
+class Damaged(Stop):
+    """PLACES cannot be read, as after a merge with a conflict."""
+
+
 def load_places(crate):
-    """Function -> Places."""
+    """Function -> Places. Raises Damaged."""
     if not os.path.exists(places_file(crate)):
         return {}
+    lines = read(places_file(crate)).splitlines()
+    for number, line in enumerate(lines, 1):
+        if line.split(" ")[0] not in ("fn", "loop", "ways", "need"):
+            raise Damaged("%s:%d: `%s` is no line of it\n    run: tools/proofkit write %s"
+                          % (places_file(crate), number, line, crate))
+    return parse_places(lines)
+
+
+def parse_places(lines):
     found, fn, trail = {}, None, []
-    for line in read(places_file(crate)).splitlines():
+    for line in lines:
         word, *rest = line.split()
         if word == "fn":
             fn, trail = rest[0], []
@@ -347,9 +360,18 @@ def shared_front(a, b):
 
 # ---- for a person to read
 
+CALLED = ["result", "ensures", "last", "kept", "ok"]  # the fields of a call
+
+
 def read_fields(crate, fn):
-    """Need -> for each thing on its trail, the fields that it has there: `taken`, `ensures`, .."""
+    """Need -> for each thing on its trail, the fields that it has there: `taken`, `ensures`, ..
+
+    Under "args" it has the parameters.
+    """
     lts = generated_file(crate, fn, "Lts")
     records = read_records(lts)
-    return {need: [fields for _, fields in read_way(records, place)]
-            for need, place in read_needs(lts).items()}
+    called = re.findall(r"\n *After-(\S+)·own =\s+Called\.Called", lts)
+    fields = {need: [own or (CALLED if thing in called else [])
+                     for thing, own in read_way(records, place)]
+              for need, place in read_needs(lts).items()}
+    return dict(fields, args=[field for field, _, _ in records.get("Args", [])])

@@ -2,14 +2,15 @@
 
 All paths are relative to the project's root, which `enter_root` makes the working folder.
 """
-import functools
 import hashlib
 import os
+import re
 import shutil
 import subprocess
 import tempfile
 
 OUTPUT = "target/proofkit.out"  # all that the last `rt dev` printed
+STOPPED = "-- the module stopped here"  # in a generated file that is not whole
 
 
 class Stop(Exception):
@@ -69,13 +70,13 @@ def check_crate(crate):
                    % (crate, ", ".join(sorted(crates()))))
 
 
-def dev(crate, *words):
-    """The lines that `rt dev CRATE WORDS` prints."""
+def dev(crate, *words, output=OUTPUT):
+    """The lines that `rt dev CRATE WORDS` prints. They are kept in a file, too."""
     done = subprocess.run(["rt", "dev", crate, *words], capture_output=True, text=True,
                           env=dict(os.environ, RT_CUT="0"), check=False)
     text = done.stdout + done.stderr
-    put(OUTPUT, text)
-    return text.split("\n")
+    put(output, text)
+    return text.replace(os.getcwd() + "/", "").split("\n")
 
 
 def reached(crate):
@@ -106,24 +107,50 @@ def source_sum(crate):
     return total.hexdigest()
 
 
-@functools.cache
 def generated(crate):
     """The folder with the toolchain's text of the crate as it is now.
 
-    The text is made again only if what it is made from has changed.
+    The text is made again only if what it is made from has changed, or if it was not whole: a
+    broken proof stops the text of the functions that call it.
     """
-    check_crate(crate)
     folder, stamp = "target/gen/%s" % crate, "target/gen/%s.sum" % crate
+    if crate in made:
+        return folder
+    check_crate(crate)
     now = source_sum(crate)
-    if not os.path.exists(stamp) or read(stamp) != now:
+    if not os.path.exists(folder) or not os.path.exists(stamp) or read(stamp) != now:
         shutil.rmtree(folder, ignore_errors=True)
+        forget(crate)
         lines = dev(crate, "--generated", folder)
-        if not any(line.startswith("generated=") for line in lines):
-            said = [line for line in lines if "error" in line or line.startswith("rt: ")]
-            raise Stop("the toolchain makes no text of %s (%s has all that it said):\n%s"
-                       % (crate, OUTPUT, "\n".join(said)[:2000]))
-        put(stamp, now)
+        if not os.path.exists(folder):
+            raise Stop(why_none(crate, lines))
+        if not any(STOPPED in read("%s/%s.antt" % (folder, path))
+                   for path in listed(folder, ".antt")):
+            put(stamp, now)
+    made.add(crate)
     return folder
+
+
+made = set()  # the crates whose text this run has looked at
+
+
+def forget(crate):
+    """Has the crate's text made again when it is asked for next."""
+    made.discard(crate)
+    if os.path.exists("target/gen/%s.sum" % crate):
+        os.remove("target/gen/%s.sum" % crate)
+
+
+def why_none(crate, lines):
+    """Why the toolchain makes no text of a crate, and what to do."""
+    lost = re.search(r"has no function `(\S+)` for this file", "\n".join(lines))
+    if lost:
+        fn = lost.group(1).replace("::", "/")
+        return ("%s has no function %s: remove crates/%s/proofs/%s and crates/%s/answers/%s.txt, "
+                "or move both to the function's new name" % ((crate, fn) * 3))
+    said = [line for line in lines if "error" in line or line.startswith("rt: ")]
+    return "the toolchain makes no text of %s (%s has all that it said):\n%s" % (
+        crate, OUTPUT, "\n".join(said)[:2000])
 
 
 def generated_file(crate, fn, name):
@@ -133,12 +160,18 @@ def generated_file(crate, fn, name):
 
 
 def formatted(files):
-    """Files of antt, path to text, as `rt fmt` lays them out. It runs in a folder of their own."""
+    """Files of antt, path to text, as `rt fmt` lays them out; and path -> (line, what is wrong) of
+    those that do not parse. It runs in a folder of its own."""
+    if not files:
+        return {}, {}
     with tempfile.TemporaryDirectory() as room:
         put(room + "/crates.txt", "")
         for path, text in files.items():
             put("%s/%s" % (room, path), text)
         done = subprocess.run(["rt", "fmt"], cwd=room, capture_output=True, text=True, check=False)
-        if done.returncode:
-            raise Stop("rt fmt: " + (done.stdout + done.stderr).replace(room + "/", ""))
-        return {path: read("%s/%s" % (room, path)) for path in files}
+        said = (done.stdout + done.stderr).replace(os.path.realpath(room) + "/", "")
+        wrong = {path: (int(line), what) for path, line, what in
+                 re.findall(r"(?m)^(\S+): (\d+):\d+: (.*)$", said)}
+        if done.returncode and not wrong:
+            raise Stop("rt fmt: " + said)
+        return {path: read("%s/%s" % (room, path)) for path in files if path not in wrong}, wrong

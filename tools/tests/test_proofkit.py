@@ -6,7 +6,8 @@ import sys
 import tempfile
 import unittest
 
-HERE = os.path.dirname(os.path.realpath(__file__))
+from small_crate import HERE, lay
+
 TOOL = os.path.join(HERE, "..", "proofkit")
 sys.dont_write_bytecode = True
 sys.path.insert(0, os.path.join(HERE, ".."))
@@ -14,7 +15,8 @@ sys.path.insert(0, os.path.join(HERE, ".."))
 from prooflib.answers import Answers  # noqa: E402  (the path comes first)
 from prooflib.lifting import Count, lift_term  # noqa: E402
 from prooflib.moving import align, move  # noqa: E402
-from prooflib.places import Places, base, counted, load_places, save_places  # noqa: E402
+from prooflib.places import (Places, base, counted, load_places,  # noqa: E402
+                             read_records, read_ways, save_places)
 from prooflib.toolchain import put, read  # noqa: E402
 from prooflib.writing import with_paths  # noqa: E402
 
@@ -100,6 +102,24 @@ class Parts(unittest.TestCase):
             finally:
                 os.chdir(here)
 
+    def test_ways_that_meet_are_read_whatever_their_layout(self):
+        lts = """
+  module _ where
+    pub record Join1·own : Type 0 where
+      pub n : Nat
+      pub came : Logic._⊎_ ((if1 : Then1·own before·) × (also : After-also·own record {
+        before = before·;
+        if1 = if1;
+      }) × (Path._≡_ n 3)) ((if1 : Else1·own before·) × (Path._≡_ n 4))
+
+    pub record Join1 : Type 0 where
+      pub before : Start
+      pub if1 : Join1·own before
+
+"""
+        ways = read_ways(read_records(lts))
+        self.assertEqual(ways, {"if1": [["if1", "also", "=n"], ["if1", "=n"]]})
+
     def test_pairs_rise_and_have_the_greatest_sum(self):
         old, new = "abc", "xaybzc"
         self.assertEqual(align(old, new, lambda i, j: old[i] == new[j]), [(0, 1), (1, 3), (2, 5)])
@@ -127,6 +147,26 @@ class Parts(unittest.TestCase):
         self.assertIn("add(gone): omega arith", shown)
         self.assertEqual(notes, ["add is asked no more; its answer stays in the file as add(gone)"])
 
+    def test_an_answer_that_another_need_keeps_does_not_stay_twice(self):
+        shown, notes = self.moved("add, returns: omega arith\n",
+                                  needs(add="psl", returns="psl"), needs(returns="psl"))
+        self.assertEqual(shown, "returns: omega arith\n")
+        self.assertEqual(notes, ["add is asked no more"])
+
+    def test_a_function_with_another_name_is_followed(self):
+        shown, notes = self.moved("psl-requires: omega arith\n\nreturns: @psl#2 .ensures\n",
+                                  needs(psl_requires="word", returns="word psl if1.taken psl2"),
+                                  needs(low_requires="word", returns="word low if1.taken low2"))
+        self.assertEqual(shown, "low-requires: omega arith\n\nreturns: @low#2 .ensures\n")
+        self.assertEqual(notes, ["returns: @psl#2 has another name now: @low#2"])
+
+    def test_arms_that_change_places_keep_their_answers(self):
+        shown, _ = self.moved("add: omega arith\n\ncast: @word .ensures\n",
+                              needs(add="if1.taken", cast="if1.left word"),
+                              needs(cast="if1.taken word", add="if1.left"))
+        self.assertIn("add: omega arith", shown)
+        self.assertIn("cast: @word .ensures", shown)
+
     def test_a_need_that_is_asked_twice_takes_one_answer(self):
         new = needs(returns="psl if1.taken word", returns_2="psl if1.left word2")
         shown, notes = self.moved("returns: @psl .ensures\n", needs(returns="psl word"), new)
@@ -141,12 +181,7 @@ class SmallCrate(unittest.TestCase):
     def setUpClass(cls):
         cls.room = tempfile.mkdtemp()
         cls.master = os.path.join(cls.room, "master")
-        stored = os.path.join(HERE, "small")
-        for place, _, names in os.walk(stored):
-            for name in names:
-                path = os.path.relpath(os.path.join(place, name), stored)
-                to = path if path == "crates.txt" else path.removesuffix(".txt")
-                put(os.path.join(cls.master, to), read(os.path.join(place, name)))
+        lay(cls.master)
         cls.lifted = cls.call(cls.master, TOOL, "lift", "small")
 
     @classmethod
@@ -279,35 +314,111 @@ class SmallCrate(unittest.TestCase):
         self.kit("lift", "small", "next")
         self.assert_current()
 
-    def test_a_new_function_is_begun_shown_and_guessed(self):
+    def test_a_new_function_is_begun_checked_and_guessed(self):
         self.add("pub fn third(x: u64) -> u64\n"
                  "    ensures { λ r. ⌜ r ≡ nextOf (nextOf (nextOf x)) ⌝ }\n"
                  "{\n    let y = after_next(x);\n    next(y)\n}\n")
+        said = self.kit("check", "small")
+        self.assertEqual(said.returncode, 1)
+        self.assertIn("run: tools/proofkit scaffold small", said.stdout)
         said = self.kit("scaffold", "small").stdout
         self.assertIn("begun: crates/small/answers/third.txt", said)
         self.assertEqual(self.text("answers/third.txt"), "returns: ?\n")
-        shown = self.kit("holes", "small").stdout
-        self.assertIn("(@next .result)", shown)
-        self.assertIn("nextOf (@args .x)", shown)
+        said = self.kit("check", "small").stdout
+        self.assertIn("third: returns: ", said)
+        self.assertIn("(@next .result)", said)
+        self.assertIn("nextOf (@args .x)", said)
         self.kit("auto", "small", "third")
-        self.assertIn("rw (← @after-next .ensures,", self.text("answers/third.txt"))
+        self.assertEqual(self.text("answers/third.txt"),
+                         "returns:\n    rw (← @after-next .ensures,\n    ← @next .ensures)\n")
         self.assert_proved(4)
+
+    def test_check_shows_the_goal_of_an_answer_that_fails(self):
+        before = self.text("proofs/after_next/Proof.antt")
+        self.edit("src/lib.rt", "    next(y)\n", "    next(x)\n")
+        said = self.kit("check", "small")
+        self.assertEqual(said.returncode, 1)
+        self.assertIn("after_next: returns: ", said.stdout)
+        self.assertIn("(@next#2 .result)", said.stdout)
+        self.assertIn("small: not proved", said.stdout)
+        self.assertEqual(self.text("proofs/after_next/Proof.antt"), before)
+        self.edit("src/lib.rt", "    next(x)\n", "    next(y)\n")
+        self.assertIn("small: proved, functions=3", self.kit("check", "small").stdout)
+
+    def test_a_function_with_another_name_costs_two_moves(self):
+        put(self.path("src/lib.rt"), self.text("src/lib.rt").replace("next(", "succ(")
+            .replace("after_succ(", "after_next("))
+        os.rename(self.path("answers/next.txt"), self.path("answers/succ.txt"))
+        os.rename(self.path("proofs/next"), self.path("proofs/succ"))
+        said = self.kit("write", "small")
+        self.assertEqual(said.returncode, 0, said.stdout + said.stderr)
+        self.assertIn("returns: @next#2 has another name now: @succ#2", said.stdout)
+        self.assert_current()
+        self.assert_proved(3)
+
+    def test_a_proof_of_no_function_is_named(self):
+        shutil.copytree(self.path("proofs/next"), self.path("proofs/last"))
+        said = self.kit("write", "small")
+        self.assertEqual(said.returncode, 2)
+        self.assertIn("small has no function last: remove crates/small/proofs/last", said.stderr)
+        self.assert_refused("crates/small/proofs/last/Proof.antt has no answers",
+                            "or remove it, if the function is gone")
+
+    def test_a_proof_that_does_not_parse_is_not_lifted(self):
+        before = self.text("answers/after_next.txt")
+        self.edit("proofs/after_next/Proof.antt", "returns c =", "returns c = )")
+        said = self.kit("lift", "small", "after_next")
+        self.assertEqual(said.returncode, 1)
+        self.assertIn("left alone: after_next: returns: ", said.stdout)
+        self.assertEqual(self.text("answers/after_next.txt"), before)
+
+    def test_answers_that_do_not_parse_are_said_by_need(self):
+        self.edit("answers/after_next.txt", "returns:", "returns: (")
+        self.assert_refused("crates/small/answers/after_next.txt: returns: ", "the `(` opened at",
+                            "2 proofs are what their answers give, 1 faults")
+        said = self.kit("write", "small")
+        self.assertEqual(said.returncode, 1)
+        self.assertIn("the `(` opened at", said.stdout)
+
+    def test_places_with_a_conflict_are_refused_and_written_anew(self):
+        put(self.path("answers/PLACES"), "<<<<<<< ours\n" + self.text("answers/PLACES"))
+        self.assert_refused("crates/small/answers/PLACES:1: `<<<<<<< ours` is no line of it",
+                            "tools/proofkit write small")
+        self.kit("write", "small")
+        self.assert_current()
+        os.remove(self.path("answers/PLACES"))
+        self.assert_refused("crates/small/answers/PLACES is missing")
+
+    def test_a_source_that_does_not_check_is_said(self):
+        self.edit("src/lib.rt", "    next(y)\n", "    next(y\n")
+        for command in ("scaffold", "check"):
+            said = self.kit(command, "small")
+            self.assertEqual(said.returncode, 2)
+            self.assertIn("src/lib.rt", said.stderr)
 
     def test_places_lists_what_can_be_named(self):
         said = self.kit("places", "small", "count", "loop-again").stdout
-        for word in ("@args", "@loop ", ".inv", "@loop-test", ".taken", "@if", ".came"):
-            self.assertIn(word, said)
+        for line in ("@args  .a  .b", "@loop  .n  .i  .inv", "@loop-test  .taken", "@if  .n"):
+            self.assertIn(line, said)
+        said = self.kit("places", "small", "after_next", "returns").stdout
+        self.assertIn("@next#1  .result  .ensures", said)
 
     def test_wrong_words_are_answered_with_help(self):
         for words, answer in (("wrote", "there is no command wrote"),
-                              ("write", "write takes other words"),
+                              ("write", "the words are: proofkit write CRATE [FN..]"),
                               ("write large", "crates.txt lists no crate large"),
                               ("places small count x", "count asks no x"),
-                              ("holes small wide", "the width is a number of characters"),
+                              ("check small wide", "the width is a number of characters"),
                               ("write small none", "there is no crates/small/answers/none.txt")):
             said = self.kit(*words.split())
             self.assertEqual(said.returncode, 2, words)
             self.assertIn(answer, said.stderr)
+
+    def test_a_fault_of_the_answers_ends_write_with_1(self):
+        self.edit("answers/after_next.txt", "@next#1", "@other")
+        said = self.kit("write", "small")
+        self.assertEqual(said.returncode, 1)
+        self.assertIn("after_next: returns: there is no @other", said.stdout)
 
 
 if __name__ == "__main__":

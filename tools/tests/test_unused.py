@@ -326,12 +326,16 @@ class Mend(Case):
         return (self.root / path).read_text(encoding="utf-8")
 
     def test_it_says_what_it_removed(self):
-        self.write({"crates/a/proofs/f/Proof.antt": "use lib.N.{a, b}\n\nf : ℕ\nf = a\n"})
+        self.write({"crates/a/proofs/f/Proof.antt": "use lib.N.{a, b}\n\nf : ℕ\nf = a\n",
+                    "crates/b/answers/g.txt": "use lib.N.{c}\n\nreturns: refl\n"})
         done = self.run_tool("--mend")
         self.assertEqual(done.returncode, 0)
         self.assertEqual(done.stdout.splitlines(), [
             "crates/a/proofs/f/Proof.antt:1: removed import b",
-            "unused definitions: 0, unused laws: 0, removed imports: 1",
+            "crates/b/answers/g.txt:1: removed import c",
+            "unused definitions: 0, unused laws: 0, removed imports: 2",
+            "run: tools/proofkit write b",
+            "run: rt fmt",
         ])
         self.assertEqual(self.run_tool().returncode, 0)
 
