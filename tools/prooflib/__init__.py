@@ -1,7 +1,9 @@
 """The parts of `tools/proofkit`, from the bottom up.
 
 toolchain  runs `rt`: one crate checked, its generated text, files formatted
-places     what a function's proof has to fit, by the generated text; the file answers/PLACES
+places     what a function's proof has to fit, and the names of the things in it
+generated  places, read from the toolchain's text
+stored     places, kept in the file answers/PLACES
 answers    the format of an answers file
 lifting    Proof.antt to answers
 writing    answers to Proof.antt

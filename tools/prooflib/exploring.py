@@ -6,10 +6,11 @@ import os
 import re
 
 from prooflib.answers import Block, answers_file, proof_file, read_answers
+from prooflib.generated import read_fields, read_places
 from prooflib.guessing import guess, uses
-from prooflib.keeping import answered, lift, proof_texts, write
+from prooflib.keeping import answered, lift_files, proof_texts, write
 from prooflib.lifting import Count, lift_term
-from prooflib.places import load_places, read_fields, read_places
+from prooflib.stored import load_places
 from prooflib.toolchain import OUTPUT, Stop, check_crate, dev, put, read
 
 GOALS = "target/proofkit-goals.out"  # what the toolchain printed of the goals
@@ -150,7 +151,7 @@ def scaffold(crate):
         print("%s: every function has a proof or needs none; `tools/proofkit check %s` says what "
               "is left" % (crate, crate))
         return 0
-    lift(crate, *begun)
+    lift_files(crate, begun, Count())
     for fn in begun:
         print("begun: %s, where `?` is what is left to say" % answers_file(crate, fn))
     print("next: edit it, and run: tools/proofkit check %s" % crate)

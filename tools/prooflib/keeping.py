@@ -7,9 +7,10 @@ import re
 import time
 
 from prooflib.answers import answers_file, proof_file, read_answers
+from prooflib.generated import read_places
 from prooflib.lifting import Count, Unliftable, lift_text, meaning
 from prooflib.moving import move
-from prooflib.places import Damaged, load_places, places_file, read_places, save_places
+from prooflib.stored import Damaged, load_places, places_file, save_places
 from prooflib.toolchain import Stop, check_crate, crates, forget, formatted, listed, put, read
 from prooflib.writing import write_text
 
@@ -61,9 +62,23 @@ def declared_at(text, line, what):
 def lift(crate, *wanted):
     """Makes answers of Proof.antt, and writes Proof.antt again from them."""
     check_crate(crate)
-    began, count, known = time.time(), Count(), known_places(crate)
-    before, answers, alone = {}, {}, 0
-    for fn in wanted or proved(crate):
+    began, count, functions = time.time(), Count(), wanted or proved(crate)
+    lifted, changed = lift_files(crate, functions, count)
+    for fn in changed:
+        print("NOT THE SAME when written again: %s" % fn)
+    print("%s: %d proofs lifted, %d left alone; %d chains by name, %d by number; %.1f s"
+          % (crate, len(lifted), len(functions) - len(lifted), count.named, count.left,
+             time.time() - began))
+    return 1 if changed or set(wanted) - set(lifted) else 0
+
+
+def lift_files(crate, functions, count):
+    """Lifts the proofs of some functions, and says which it leaves alone, and why.
+
+    Returns the functions that were lifted, and those whose proof says something else now.
+    """
+    known, before, answers = known_places(crate), {}, {}
+    for fn in functions:
         if not os.path.exists(proof_file(crate, fn)):
             raise Stop("there is no " + proof_file(crate, fn))
         places, before[fn] = read_places(crate, fn), read(proof_file(crate, fn))
@@ -72,21 +87,14 @@ def lift(crate, *wanted):
             known[fn] = places
         except Unliftable as why:
             print("left alone: %s: %s" % (fn, why))
-            alone += 1
     after, faults = proof_texts(crate, answers, known)
     for fn, fault in faults:
         print("left alone: %s: %s" % (fn, fault))
-    changed = [fn for fn in after if meaning(before[fn]) != meaning(after[fn])]
-    for fn in changed:
-        print("NOT THE SAME when written again: %s" % fn)
     for fn in after:
         put(answers_file(crate, fn), answers[fn].show())
         put(proof_file(crate, fn), after[fn])
     save_places(crate, {fn: known[fn] for fn in answered(crate) if fn in known})
-    print("%s: %d proofs lifted, %d left alone; %d chains by name, %d by number; %.1f s"
-          % (crate, len(after), alone + len(answers) - len(after), count.named, count.left,
-             time.time() - began))
-    return 1 if changed or faults else 0
+    return list(after), [fn for fn in after if meaning(before[fn]) != meaning(after[fn])]
 
 
 # ---- write

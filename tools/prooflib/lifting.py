@@ -162,7 +162,7 @@ def drop_repeated_params(out):
 def lift_term(term, need, places, count):
     """A term with each chain from `c` by name. What has no name stays `c ^N`, and is counted."""
     trail, names = places.trails[need], places.names(need)
-    own = re.search(r"(λ[^.]*(?<!%s)c(?!%s)|let\s+c(?!%s))" % (EDGE, EDGE, EDGE), term)
+    own = re.search(r"λ[^.]*(?<!%s)c(?=[\s.)])|let\s+c(?!%s)" % (EDGE, EDGE), term)
 
     def named(depth, field):
         if own:  # the term binds a `c` of its own

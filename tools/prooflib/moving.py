@@ -144,9 +144,24 @@ def move_term(text, need, to, old, new, notes):
         for rival in rivals(pairs[at], set(pairs.values()), there):
             notes.append("%s: @%s is taken for @%s; it may be @%s"
                          % (to, name, names[pairs[at]], names[rival]))
+        things = name_of(old.trails[need][at]), name_of(new.trails[to][pairs[at]])
+        way = move_way(way, things, old, new)
         return "@" + match.group(1) + ">".join([names[pairs[at]]] + way)
 
     return re.sub(r"@((?:to:)?)(%s+)" % EDGE, thing, text)
+
+
+def move_way(way, things, old, new):
+    """A way's number and the part of its tuple, under the part's new name."""
+    number = int(way[0]) - 1 if len(way) == 2 and way[0].isdigit() else -1
+    if not all(number in range(len(places.ways.get(thing, [])))
+               for places, thing in zip((old, new), things)):
+        return way
+    here, there = old.parts(things[0], number), new.parts(things[1], number)
+    pairs = align(here, there, lambda i, j: here[i] == there[j])
+    pairs = dict(with_renamed(pairs, here, there, may_be_renamed))
+    at = pairs.get(here.index(way[1])) if way[1] in here else None
+    return way if at is None else [way[0], there[at]]
 
 
 def rivals(at, met, there):
@@ -186,22 +201,31 @@ def move_loop(block, old, new, notes):
     (entry_a, present_a), (entry_b, present_b) = old.loops[loop], new.loops[loop]
     if len(block.params) != len(entry_a) + len(present_a) or same_locals(old, new, loop):
         return
-    now = dict(zip([name for name, _ in present_a], block.params[len(entry_a):]))
-
-    def same(i, j):
-        (_, sort_a, name_a), (_, sort_b, name_b) = entry_a[i], entry_b[j]
-        return sort_a == sort_b and name_a == name_b and (2 if name_a else 1)
-
-    pairs = {j: i for i, j in align(entry_a, entry_b, same)}
     changed = [at for _, at in present_b]
-    params = []
-    for j, (local, _, name) in enumerate(entry_b):
-        fresh = (name or "x%d" % local) + ("₀" if local in changed else "")
-        params.append(block.params[pairs[j]] if j in pairs else fresh)
-    params += [now.get(name, name) for name, _ in present_b]
-    notes.append("%s takes other variables now: %s (was: %s)"
-                 % (block.names[0], " ".join(params), " ".join(block.params)))
+    fresh = [(name or "x%d" % local) + ("₀" if local in changed else "")
+             for local, _, name in entry_b]
+    params = moved_names(block.params[:len(entry_a)], [one[1:] for one in entry_a],
+                         [one[1:] for one in entry_b], fresh)
+    names_a, names_b = ([("", name) for name, _ in one] for one in (present_a, present_b))
+    params += moved_names(block.params[len(entry_a):], names_a, names_b,
+                          [name for _, name in names_b])
+    if params != block.params:
+        notes.append("%s takes other variables now: %s (was: %s)"
+                     % (block.names[0], " ".join(params), " ".join(block.params)))
     block.params = params
+
+
+def moved_names(params, old, new, fresh):
+    """What the parameters for the locals NEW are called: as before, or FRESH for a new local.
+
+    A local is (type, name). It goes to one with both, or with the type alone if it was renamed.
+    """
+    def same(i, j):
+        return old[i] == new[j] and (2 if old[i][1] else 1)
+
+    pairs = with_renamed(align(old, new, same), old, new, lambda a, b: a[0] == b[0])
+    back = {j: i for i, j in pairs}
+    return [params[back[j]] if j in back else fresh[j] for j in range(len(new))]
 
 
 def same_locals(old, new, loop):

@@ -13,10 +13,11 @@ sys.dont_write_bytecode = True
 sys.path.insert(0, os.path.join(HERE, ".."))
 
 from prooflib.answers import Answers  # noqa: E402  (the path comes first)
+from prooflib.generated import read_records, read_ways  # noqa: E402
 from prooflib.lifting import Count, lift_term  # noqa: E402
 from prooflib.moving import align, move  # noqa: E402
-from prooflib.places import (Places, base, counted, load_places,  # noqa: E402
-                             read_records, read_ways, save_places)
+from prooflib.places import Places, base, counted  # noqa: E402
+from prooflib.stored import load_places, save_places  # noqa: E402
 from prooflib.toolchain import put, read  # noqa: E402
 from prooflib.writing import with_paths  # noqa: E402
 
@@ -81,6 +82,19 @@ class Parts(unittest.TestCase):
         count = Count()
         lifted = lift_term("c .before .other", "returns", needs(returns="psl if1.taken"), count)
         self.assertEqual((lifted, count.left), ("c ^1 .other", 1))
+
+    def test_a_term_with_a_c_of_its_own_keeps_its_chains(self):
+        count = Count()
+        lifted = lift_term("λ c. c .before .psl", "returns", needs(returns="psl word"), count)
+        self.assertEqual((lifted, count.left), ("λ c. c ^1 .psl", 1))
+
+    def test_one_of_several_is_named_by_its_number_only(self):
+        places = needs(returns="psl word psl2")
+        self.assertEqual(places.path("returns", "psl#2"), "c .psl2")
+        self.assertEqual(places.path("returns", "psl#1"), "c .before .before .psl")
+        self.assertIsNone(places.path("returns", "psl"))
+        self.assertIsNone(places.path("returns", "psl2"))
+        self.assertEqual(places.path("returns", "start"), "c .before .before .before")
 
     def test_a_name_that_is_not_there_is_a_fault(self):
         faults = []
@@ -160,6 +174,27 @@ class Parts(unittest.TestCase):
         self.assertEqual(shown, "low-requires: omega arith\n\nreturns: @low#2 .ensures\n")
         self.assertEqual(notes, ["returns: @psl#2 has another name now: @low#2"])
 
+    def test_a_part_of_a_way_with_another_name_is_followed(self):
+        def places(callee):
+            return Places([("Need", "returns")], {}, {"returns": ["if1.came"]},
+                          {"if1": [["if1", callee, "=n"], ["if1", "=n"]]})
+
+        shown, _ = self.moved("returns: f (w @if>1>psl .ensures) (w @if>2>=n)\n",
+                              places("psl"), places("low"))
+        self.assertEqual(shown, "returns: f (w @if>1>low .ensures) (w @if>2>=n)\n")
+
+    def test_a_loop_keeps_its_parameters_if_a_variable_has_another_name(self):
+        def places(entry, present):
+            return Places([("Inv", "loop"), ("μ", "loop")], {"loop": (entry, present)}, {}, {})
+
+        old = places([(1, "list", "a"), (2, "nat", "n")], [("n", 2)])
+        new = places([(1, "list", "a"), (2, "nat", "count")], [("count", 2)])
+        shown, notes = self.moved("Inv-loop a n₀ n: n ≤ length a\n", old, new)
+        self.assertEqual((shown, notes), ("Inv-loop a n₀ n: n ≤ length a\n", []))
+        more = places([(1, "list", "a"), (2, "nat", ""), (3, "nat", "n")], [("n", 3)])
+        shown, _ = self.moved("Inv-loop a n₀ n: n ≤ length a\n", old, more)
+        self.assertEqual(shown, "Inv-loop a x2 n₀ n: n ≤ length a\n")
+
     def test_arms_that_change_places_keep_their_answers(self):
         shown, _ = self.moved("add: omega arith\n\ncast: @word .ensures\n",
                               needs(add="if1.taken", cast="if1.left word"),
@@ -232,6 +267,7 @@ class SmallCrate(unittest.TestCase):
         self.assertIn("returns: @next#2 .ensures ∙ ap nextOf (@next#1 .ensures)",
                       self.text("answers/after_next.txt"))
         self.assertIn("w @if>1>=n", self.text("answers/count.txt"))
+        self.assertIn("\nμ-loop: length a - i\n", self.text("answers/count.txt"))
         self.assertNotIn(".before", self.text("answers/count.txt"))
         self.assertNotIn("search needs", self.text("answers/count.txt"))
 
