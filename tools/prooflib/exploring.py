@@ -27,6 +27,7 @@ def check(crate, width="1400"):
     if not width.isdigit():
         raise Stop("the width is a number of characters, and not " + width)
     if write(crate):
+        print("%s: not proved; the answers have faults" % crate)
         return 1
     lines = dev(crate)
     verdict = next((line for line in lines if line.startswith("logic=")), "")

@@ -44,7 +44,8 @@ def proof_texts(crate, answers, known):
     made, unparsed = formatted(texts)
     for path, (line, what) in unparsed.items():
         fn = next(one for one in answers if proof_file(crate, one) == path)
-        faults.append((fn, "%s: %s" % (declared_at(texts[path], line, what), what)))
+        need = declared_at(texts[path], line, what)
+        faults.append((fn, "%s: %s" % (need, re.sub(r" at \d+:\d+", "", what))))
     paths = {fn: proof_file(crate, fn) for fn in answers}
     return {fn: made[path] for fn, path in paths.items() if path in made}, faults
 
@@ -124,7 +125,7 @@ def write(crate, *wanted):
         save_places(crate, {fn: known[fn] for fn in answered(crate) if fn in known})
     faults += [(fn, "the toolchain stops before it; `rt dev %s` says why" % crate) for fn in todo]
     for fn, fault in faults:
-        print("%s: %s" % (fn, fault))
+        print("%s: %s" % (answers_file(crate, fn), fault))
     print("%s: %d proofs, %d written anew; %.1f s" % (crate, total, changed, time.time() - began))
     return 1 if faults else 0
 
@@ -137,7 +138,9 @@ def write_present(crate, present, known):
     answers = {fn: carried_over(crate, fn, known.get(fn), present[fn]) for fn in present}
     known.update(present)
     texts, faults = proof_texts(crate, answers, known)
-    return sum(put(proof_file(crate, fn), text) for fn, text in texts.items()), faults
+    wrong = {fn for fn, _ in faults}
+    return sum(put(proof_file(crate, fn), text) for fn, text in texts.items()
+               if fn not in wrong), faults
 
 
 def carried_over(crate, fn, old, new):
@@ -177,11 +180,12 @@ def current_crate(crate):
     known = load_places(crate)
     answers = {fn: read_answers(crate, fn) for fn in answered(crate) if fn in known}
     made, wrong = proof_texts(crate, answers, known)
-    faults = ["%s: %s\n    edit it, and run: tools/proofkit write %s %s"
-              % (answers_file(crate, fn), fault, crate, fn) for fn, fault in wrong]
-    stale = [fn for fn in made if not is_file(proof_file(crate, fn), made[fn])]
+    faults = ["%s: %s\n    edit it, and run: tools/proofkit check %s"
+              % (answers_file(crate, fn), fault, crate) for fn, fault in wrong]
+    sound = set(made) - {fn for fn, _ in wrong}
+    stale = [fn for fn in sorted(sound) if not is_file(proof_file(crate, fn), made[fn])]
     faults += [stale_fault(crate, fn) for fn in stale] + loose_ends(crate, known)
-    return len(set(made) - set(stale) - {fn for fn, _ in wrong}), faults
+    return len(sound) - len(stale), faults
 
 
 def is_file(path, text):
@@ -197,7 +201,7 @@ def stale_fault(crate, fn):
 
 def loose_ends(crate, known):
     """Proofs, answers and places that lack one another. A walk by hand answers no Tie."""
-    have, faults = answered(crate), []
+    have, source, faults = answered(crate), functions_of(crate), []
     if have and not known:
         faults.append("%s is missing\n    run: tools/proofkit write %s"
                       % (places_file(crate), crate))
@@ -206,8 +210,20 @@ def loose_ends(crate, known):
             faults.append("%s has no answers\n    run: tools/proofkit lift %s %s\n"
                           "    or remove it, if the function is gone"
                           % (proof_file(crate, fn), crate, fn))
+    for fn in have:
+        if fn.split("/")[-1] not in source:
+            faults.append("%s: the source has no `fn %s`\n    remove it and %s, or move both to "
+                          "the function's new name" % (answers_file(crate, fn), fn.split("/")[-1],
+                                                       os.path.dirname(proof_file(crate, fn))))
     for fn in sorted(set(have) ^ set(known) if known else set()):
         has, lacks = ((answers_file(crate, fn), "no places yet") if fn in have
                       else (places_file(crate), "%s, which has no answers" % fn))
         faults.append("%s has %s\n    run: tools/proofkit write %s" % (has, lacks, crate))
     return faults
+
+
+def functions_of(crate):
+    """The names of the functions in a crate's source."""
+    folder = "crates/%s/src" % crate
+    return {name for path in listed(folder, ".rt")
+            for name in re.findall(r"\bfn (\w+)", read("%s/%s.rt" % (folder, path)))}

@@ -190,7 +190,7 @@ def new_need(answers, need, goes, new):
                                          re.findall(r"@(%s+)" % EDGE, block.text)):
             block.names.append(need)
             return "%s is new, and takes the answer of %s" % (need, other)
-    return "%s is new: %s, unless the answers name it" % (need, DEFAULT)
+    return "%s is new; `%s` answers it unless you do" % (need, DEFAULT)
 
 
 def move_loop(block, old, new, notes):

@@ -23,6 +23,7 @@ def write_text(answers, crate, fn, places):
         else:
             parts.append(need_declaration(name, block, given, places, faults))
     faults += ["it answers %s, which the function does not ask" % name
+               if re.fullmatch(r"\S+", name) else "`%s ..` has no needs and a colon" % name[:40]
                for name in blocks if name not in asked]
     faults += ["it answers %s twice" % name for name in repeated(answers)]
     spec = fn.split("/")[-1].replace("_", "-") + "-spec"

@@ -341,7 +341,8 @@ class SmallCrate(unittest.TestCase):
 
     def test_a_name_that_is_not_there_is_refused(self):
         self.edit("answers/after_next.txt", "@next#1", "@other")
-        self.assert_refused("returns: there is no @other; there are next#1, next#2")
+        self.assert_refused("returns: there is no @other; there are next#1, next#2",
+                            "2 proofs are what their answers give, 1 faults")
 
     def test_a_proof_with_no_answers_is_refused(self):
         os.remove(self.path("answers/next.txt"))
@@ -410,11 +411,13 @@ class SmallCrate(unittest.TestCase):
 
     def test_answers_that_do_not_parse_are_said_by_need(self):
         self.edit("answers/after_next.txt", "returns:", "returns: (")
-        self.assert_refused("crates/small/answers/after_next.txt: returns: ", "the `(` opened at",
+        self.assert_refused("crates/small/answers/after_next.txt: returns: ", "the `(` opened",
                             "2 proofs are what their answers give, 1 faults")
         said = self.kit("write", "small")
         self.assertEqual(said.returncode, 1)
-        self.assertIn("the `(` opened at", said.stdout)
+        self.assertIn("the `(` opened", said.stdout)
+        self.edit("answers/after_next.txt", "returns: (", "returns ")
+        self.assert_refused("after_next.txt: `returns ", "has no needs and a colon")
 
     def test_places_with_a_conflict_are_refused_and_written_anew(self):
         put(self.path("answers/PLACES"), "<<<<<<< ours\n" + self.text("answers/PLACES"))
@@ -452,9 +455,16 @@ class SmallCrate(unittest.TestCase):
 
     def test_a_fault_of_the_answers_ends_write_with_1(self):
         self.edit("answers/after_next.txt", "@next#1", "@other")
+        before = self.text("proofs/after_next/Proof.antt")
         said = self.kit("write", "small")
         self.assertEqual(said.returncode, 1)
-        self.assertIn("after_next: returns: there is no @other", said.stdout)
+        self.assertIn("answers/after_next.txt: returns: there is no @other", said.stdout)
+        self.assertEqual(self.text("proofs/after_next/Proof.antt"), before)
+        self.assertIn("small: not proved", self.kit("check", "small").stdout)
+
+    def test_answers_of_no_function_are_refused(self):
+        put(self.path("src/lib.rt"), self.text("src/lib.rt").replace("fn next(", "fn succ("))
+        self.assert_refused("crates/small/answers/next.txt: the source has no `fn next`")
 
 
 if __name__ == "__main__":

@@ -198,6 +198,19 @@ class Reached(Case):
         self.assertEqual(self.names(files), ["q"])
         self.assertEqual(self.names({"crates/a/must-fail/q.edit": edit}), [])
 
+    def test_code_in_an_edit_is_no_contract(self):
+        files = {"crates/a/src/lib.rt": code("⌜ r ≡ n ⌝", "ghost use lib.N.{_≡_, _-_};\n")}
+        edit = "file: src/lib.rt\nold:     n\nnew:     n - 1\n"
+        self.assertEqual(self.names({**files, "crates/a/must-fail/e.edit": edit}), ["_-_"])
+        edit = "file: src/lib.rt\nold: r ≡ n\nnew: r ≡ n - 1\n"
+        self.assertEqual(self.names({**files, "crates/a/must-fail/e.edit": edit}), [])
+
+    def test_a_use_line_that_an_edit_quotes_stays(self):
+        files = {"crates/a/proofs/L.antt": LAWS + "use lib.N.{p}\n"}
+        edit = "file: proofs/L.antt\nold: use lib.N.{p}\nnew: use lib.N.{p, q}\n"
+        self.assertEqual(self.names(files), ["p"])
+        self.assertEqual(self.names({**files, "crates/a/must-fail/e.edit": edit}), [])
+
     def test_functions_of_one_block(self):
         text = LAWS + (
             "a : ℕ\na = 1\n\nb : ℕ\nb = 1\n\n"
