@@ -8,16 +8,16 @@ use borrow.Author.Tests.{ltb-true, ltb-false, le-leb, lt-leb}
 use lib.Dec.{ltb, leb}
 use lib.ListN.{getD, set, take, drop, length, length-take, length-drop, List·getD-eq-default}
 use lib.Seq.{getD-take, getD-drop, take-set-le, take-set-lt, drop-set-lt, drop-set-add, set-out, take-all}
-use Rattle.cpu.specs.Choice.{if_then_else_}
+use Rattle.common.specs.Choice.{if_then_else_}
 use Rattle.cpu.specs.Core.{cpuOf, pendingOf, steppedOf, offeredOf}
 use Rattle.cpu.specs.Instruction.{stepOf}
-use Rattle.cpu.specs.Machine.{machineOf, portsOf, effectOf, afterStep, machineStep}
+use Rattle.cpu.specs.Machine.{withCpu, withStatus, withRead, withWritten, machineOf, portsOf, effectOf, afterStep, machineStep}
 use Rattle.cpu.specs.Partition.{Parts, boundsOf, machineAt, offerOf, Settled, settled, settledOf}
 use Rattle.cpu.specs.Result.{Ports, Stepped}
 use Rattle.cpu.specs.StepLaws.{step-ends, Allowed, ending-allowed}
 use Rattle.cpu.specs.Times.{step-runs}
 use Rattle.cpu.specs.declared.core.Core.{Core}
-use Rattle.cpu.specs.declared.machine.Sizes.{Sizes}
+use Rattle.common.specs.declared.layout.Layout.{Layout}
 use Rattle.cpu.specs.declared.machine.State.{State}
 use Rattle.cpu.specs.declared.partition.Bounds.{Bounds}
 use Rattle.cpu.specs.declared.partition.Positions.{Positions}
@@ -83,34 +83,34 @@ full-law b k l p false h =
     let x : length (take (b .end - b .output) (drop (b .output) l)) ≤ k .written = omega arith in
     le-leb _ _ g ∙ sym (le-leb _ _ x)
 
-ports-law : (b : Bounds) (c : Cpu) (s : ℕ) (k : Positions) (l : List ℕ) → Parts b (length l) → offeredOf (offerOf b k) (take (b .second) l) ≡ portsOf (machineAt b c s k l)
+ports-law : (given : State) (b : Bounds) (c : Cpu) (s : ℕ) (k : Positions) (l : List ℕ) → Parts b (length l) → offeredOf (offerOf b k) (take (b .second) l) ≡ portsOf (machineAt given b c s k l)
 unfolding offeredOf offerOf machineAt
-ports-law b c s k l p = rw (byte-law b k l p _ refl, full-law b k l p _ refl)
+ports-law given b c s k l p = rw (byte-law b k l p _ refl, full-law b k l p _ refl)
 
 -- an effect on the bytes is the machine's
-stored : (b : Bounds) (c : Cpu) (s : ℕ) (k : Positions) (l : List ℕ) (a v : ℕ) → Parts b (length l) → (t : Bool) → ltb a (b .first) ≡ t → (m : Settled) → m ≡ settledOf (Store a v) b k l → machineAt b c s (m .positions) (m .bytes) ≡ effectOf (pendingOf (Store a v)) (machineAt b c s k l)
+stored : (given : State) (b : Bounds) (c : Cpu) (s : ℕ) (k : Positions) (l : List ℕ) (a v : ℕ) → Parts b (length l) → (t : Bool) → ltb a (b .first) ≡ t → (m : Settled) → m ≡ settledOf (Store a v) b k l → machineAt given b c s (m .positions) (m .bytes) ≡ effectOf (pendingOf (Store a v)) (machineAt given b c s k l)
 unfolding settledOf effectOf machineAt if_then_else_
-stored b c s k l a v p true h m e =
+stored given b c s k l a v p true h m e =
     let g : a < b .first = ltb-true _ _ h in
     let d = p .first in
     let o = p .output in
     let x : a < b .input = omega arith in
     let y : a < b .output = omega arith in
     rw (e, h, take-set-lt (b .input) l a (v % 256) x, drop-set-lt (b .input) l a (v % 256) x, drop-set-lt (b .output) l a (v % 256) y)
-stored b c s k l a v p false h m e =
+stored given b c s k l a v p false h m e =
     let g : b .first ≤ a = ltb-false _ _ h in
     let d = p .first in
     let w : length (take (b .input) l) ≡ min (b .input) (length l) = length-take (b .input) l in
     let x : length (take (b .input) l) ≤ a = omega arith in
     rw (e, h, set-out (take (b .input) l) a (v % 256) x)
 
-taken : (b : Bounds) (c : Cpu) (s : ℕ) (k : Positions) (l : List ℕ) → ltb (k .read) (b .filled) ≡ true → (m : Settled) → m ≡ settledOf Take b k l → machineAt b c s (m .positions) (m .bytes) ≡ effectOf (pendingOf Take) (machineAt b c s k l)
+taken : (given : State) (b : Bounds) (c : Cpu) (s : ℕ) (k : Positions) (l : List ℕ) → ltb (k .read) (b .filled) ≡ true → (m : Settled) → m ≡ settledOf Take b k l → machineAt given b c s (m .positions) (m .bytes) ≡ effectOf (pendingOf Take) (machineAt given b c s k l)
 unfolding settledOf effectOf machineAt if_then_else_
-taken b c s k l h m e = rw (e, h)
+taken given b c s k l h m e = rw (e, h)
 
-put-out : (b : Bounds) (c : Cpu) (s : ℕ) (k : Positions) (l : List ℕ) (v : ℕ) → Parts b (length l) → ltb (b .output + k .written) (b .third) ≡ true → (m : Settled) → m ≡ settledOf (Put v) b k l → machineAt b c s (m .positions) (m .bytes) ≡ effectOf (pendingOf (Put v)) (machineAt b c s k l)
+put-out : (given : State) (b : Bounds) (c : Cpu) (s : ℕ) (k : Positions) (l : List ℕ) (v : ℕ) → Parts b (length l) → ltb (b .output + k .written) (b .third) ≡ true → (m : Settled) → m ≡ settledOf (Put v) b k l → machineAt given b c s (m .positions) (m .bytes) ≡ effectOf (pendingOf (Put v)) (machineAt given b c s k l)
 unfolding settledOf effectOf machineAt if_then_else_
-put-out b c s k l v p h m e =
+put-out given b c s k l v p h m e =
     let g : b .output + k .written < b .third = ltb-true _ _ h in
     let d = p .third in
     let o = p .output in
@@ -135,12 +135,12 @@ room b k l p f false h =
     let z : _≡_ {A = ℕ} 0 1 = cc in
     absurd (omega arith)
 
-settle-law : (x : Pending) (b : Bounds) (c : Cpu) (s : ℕ) (k : Positions) (l : List ℕ) → Parts b (length l) → Allowed (portsOf (machineAt b c s k l)) (pendingOf x) → (m : Settled) → m ≡ settledOf x b k l → machineAt b c s (m .positions) (m .bytes) ≡ effectOf (pendingOf x) (machineAt b c s k l)
+settle-law : (x : Pending) (given : State) (b : Bounds) (c : Cpu) (s : ℕ) (k : Positions) (l : List ℕ) → Parts b (length l) → Allowed (portsOf (machineAt given b c s k l)) (pendingOf x) → (m : Settled) → m ≡ settledOf x b k l → machineAt given b c s (m .positions) (m .bytes) ≡ effectOf (pendingOf x) (machineAt given b c s k l)
 unfolding settledOf effectOf machineAt
-settle-law Nothing b c s k l p g m e = rw (e)
-settle-law (Store a v) b c s k l p g m e = stored b c s k l a v p _ refl m e
-settle-law Take b c s k l p g m e = taken b c s k l g m e
-settle-law (Put v) b c s k l p g m e = put-out b c s k l v p (room b k l p g _ refl) m e
+settle-law Nothing given b c s k l p g m e = rw (e)
+settle-law (Store a v) given b c s k l p g m e = stored given b c s k l a v p _ refl m e
+settle-law Take given b c s k l p g m e = taken given b c s k l g m e
+settle-law (Put v) given b c s k l p g m e = put-out given b c s k l v p (room b k l p g _ refl) m e
 
 -- the positions stay in range
 abbrev Low : Settled → Type 0
@@ -216,40 +216,41 @@ unfolding boundsOf
 end-law w i o f n b e = ap (λ (x : Bounds). x .end) e
 
 -- one turn of the loop is one step of the machine
-same : (b : Bounds) (c : Cpu) (s : ℕ) (k : Positions) (l : List ℕ) (w : Next) → effectOf (pendingOf (w .effect)) (machineAt b (cpuOf (w .core)) (w .status) k l) ≡ afterStep (steppedOf w) (machineAt b c s k l)
+same : (given : State) (b : Bounds) (c : Cpu) (s : ℕ) (k : Positions) (l : List ℕ) (w : Next) → effectOf (pendingOf (w .effect)) (machineAt given b (cpuOf (w .core)) (w .status) k l) ≡ afterStep (steppedOf w) (machineAt given b c s k l)
 unfolding machineAt steppedOf
-same b c s k l w = refl
+same given b c s k l w = refl
 
-seen : (b : Bounds) (c : Cpu) (s : ℕ) (k : Positions) (l : List ℕ) → stepOf c (take (b .input) l) (portsOf (machineAt b c s k l)) ≡ stepOf (machineAt b c s k l .cpu) (machineAt b c s k l .window) (portsOf (machineAt b c s k l))
+seen : (given : State) (b : Bounds) (c : Cpu) (s : ℕ) (k : Positions) (l : List ℕ) → stepOf c (take (b .input) l) (portsOf (machineAt given b c s k l)) ≡ stepOf (machineAt given b c s k l .state .cpu) (machineAt given b c s k l .window) (portsOf (machineAt given b c s k l))
 unfolding machineAt
-seen b c s k l = refl
+seen given b c s k l = refl
 
-allowed-at : (b : Bounds) (c c' : Cpu) (s s' : ℕ) (k : Positions) (l : List ℕ) (w : Next) → Allowed (portsOf (machineAt b c s k l)) (steppedOf w .effect) → Allowed (portsOf (machineAt b c' s' k l)) (pendingOf (w .effect))
+allowed-at : (given : State) (b : Bounds) (c c' : Cpu) (s s' : ℕ) (k : Positions) (l : List ℕ) (w : Next) → Allowed (portsOf (machineAt given b c s k l)) (steppedOf w .effect) → Allowed (portsOf (machineAt given b c' s' k l)) (pendingOf (w .effect))
 unfolding machineAt steppedOf
-allowed-at b c c' s s' k l w h = h
+allowed-at given b c c' s s' k l w h = h
 
-pub status-at : (b : Bounds) (c : Cpu) (s : ℕ) (k : Positions) (l : List ℕ) → machineAt b c s k l .status ≡ s
+pub status-at : (given : State) (b : Bounds) (c : Cpu) (s : ℕ) (k : Positions) (l : List ℕ) → machineAt given b c s k l .state .status ≡ s
 unfolding machineAt
-status-at b c s k l = refl
+status-at given b c s k l = refl
 
-pub once : (b : Bounds) (m : Core) (s : ℕ) (k : Positions) (l : List ℕ) → Parts b (length l) → s ≡ 1 → (w : Next) → steppedOf w ≡ stepOf (cpuOf m) (take (b .first) l) (offeredOf (offerOf b k) (take (b .second) l)) → (n : Positions) (v : List ℕ) → settled n v ≡ settledOf (w .effect) b k l → machineAt b (cpuOf (w .core)) (w .status) n v ≡ machineStep (machineAt b (cpuOf m) s k l)
-once b m s k l q e w g n v h =
+pub once : (given : State) (b : Bounds) (m : Core) (s : ℕ) (k : Positions) (l : List ℕ) → Parts b (length l) → s ≡ 1 → (w : Next) → steppedOf w ≡ stepOf (cpuOf m) (take (b .first) l) (offeredOf (offerOf b k) (take (b .second) l)) → (n : Positions) (v : List ℕ) → settled n v ≡ settledOf (w .effect) b k l → machineAt given b (cpuOf (w .core)) (w .status) n v ≡ machineStep (machineAt given b (cpuOf m) s k l)
+once given b m s k l q e w g n v h =
     let window : take (b .first) l ≡ take (b .input) l = cut (b .input) (b .first) l (q .first) _ refl in
-    let d : steppedOf w ≡ stepOf (cpuOf m) (take (b .input) l) (portsOf (machineAt b (cpuOf m) s k l)) =
+    let d : steppedOf w ≡ stepOf (cpuOf m) (take (b .input) l) (portsOf (machineAt given b (cpuOf m) s k l)) =
     g
     ∙ ap (λ (x : List ℕ). stepOf (cpuOf m) x (offeredOf (offerOf b k) (take (b .second) l))) window
-    ∙ ap (λ (x : Ports). stepOf (cpuOf m) (take (b .input) l) x) (ports-law b (cpuOf m) s k l q) in
-    let ports = portsOf (machineAt b (cpuOf m) s k l) in
+    ∙ ap (λ (x : Ports). stepOf (cpuOf m) (take (b .input) l) x) (ports-law given b (cpuOf m) s k l q) in
+    let ports = portsOf (machineAt given b (cpuOf m) s k l) in
     let allowed : Allowed ports (steppedOf w .effect) = subst (λ (t : Stepped). Allowed ports (t .effect)) (sym d) (ending-allowed (step-ends (cpuOf m) (take (b .input) l) ports)) in
-    settle-law (w .effect) b (cpuOf (w .core)) (w .status) k l q (allowed-at b (cpuOf m) (cpuOf (w .core)) s (w .status) k l w allowed) (settled n v) h
-    ∙ same b (cpuOf m) s k l w
-    ∙ ap (λ (t : Stepped). afterStep t (machineAt b (cpuOf m) s k l)) (d ∙ seen b (cpuOf m) s k l)
-    ∙ sym (step-runs (machineAt b (cpuOf m) s k l) (status-at b (cpuOf m) s k l ∙ e))
+    settle-law (w .effect) given b (cpuOf (w .core)) (w .status) k l q (allowed-at given b (cpuOf m) (cpuOf (w .core)) s (w .status) k l w allowed) (settled n v) h
+    ∙ same given b (cpuOf m) s k l w
+    ∙ ap (λ (t : Stepped). afterStep t (machineAt given b (cpuOf m) s k l)) (d ∙ seen given b (cpuOf m) s k l)
+    ∙ sym (step-runs (machineAt given b (cpuOf m) s k l) (status-at given b (cpuOf m) s k l ∙ e))
 
--- the machine by its bounds is the machine by its sizes
-pub view-law : (z : Sizes) (s : State) (b : Bounds) (n : ℕ) (k : Positions) (l : List ℕ) → b ≡ boundsOf (z .window) (z .input) (z .output) (s .filled) n → s .read ≡ k .read → s .written ≡ k .written → machineAt b (s .cpu) (s .status) k l ≡ machineOf z s l
+-- the machine by its bounds is the machine by its layout
+pub view-law : (z : Layout) (given s : State) (b : Bounds) (n : ℕ) (k : Positions) (l : List ℕ) → b ≡ boundsOf (z .window) (z .input) (z .output) (given .filled) n
+    → s ≡ withWritten (k .written) (withRead (k .read) (withStatus (s .status) (withCpu (s .cpu) given))) → machineAt given b (s .cpu) (s .status) k l ≡ machineOf z s l
 unfolding boundsOf machineAt
-view-law z s b n k l e f g =
+view-law z given s b n k l e h =
     let x : z .window + z .input - z .window ≡ z .input = omega arith in
     let y : z .window + z .input + z .output - (z .window + z .input) ≡ z .output = omega arith in
-    rw (e, f, g, x, y)
+    rw (e, x, y) (ap (λ (t : State). machineOf z t l) (sym h))

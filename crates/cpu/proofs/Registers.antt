@@ -4,11 +4,11 @@ use mathlib.Core.Path.{_≡_, refl, ap, _∙_}
 use Prim.Native.Nat.{ℕ, zero, suc, _+_, _*_, _/_, _%_, _-_, _<_, _≤_}
 use native.Mathlib.Omega.{arith}
 use lib.ListN.{getD, set, length}
-use Rattle.cpu.specs.Choice.{if_then_else_}
+use Rattle.common.specs.Choice.{if_then_else_}
 use Rattle.cpu.specs.Core.{byteAt, putByte, quarterAt, putQuarter, bytesOf, quartersOf, bankedOf, cpuOf}
 use Rattle.cpu.specs.Result.{Stepped, Store, Put, endedOf}
 use Rattle.cpu.specs.State.{registerIndex, withCounter, withPsu, withPsl}
-use Rattle.cpu.specs.declared.address.Address.{Address}
+use Rattle.common.specs.declared.places.Address.{Address}
 use Rattle.cpu.specs.declared.core.Core.{Core}
 use Rattle.cpu.specs.declared.state.Cpu.{Cpu}
 

@@ -11,8 +11,8 @@ use mir.Syntax.{w16}
 use mir.Val.{toZ, ofZ, Fits, SFits, hbits}
 use mir.Facts.{toZ-pos, toZ-ofZ}
 use Rattle.cpu.specs.Address.{displacementOf, displacedOf}
-use Rattle.cpu.specs.Choice.{if_then_else_}
-use Rattle.cpu.specs.declared.address.Address.{Address}
+use Rattle.common.specs.Choice.{if_then_else_}
+use Rattle.common.specs.declared.places.Address.{Address}
 
 -- a number below 2 ^ 15, and one from which a larger numeral is taken
 pub small : (b : ℕ) → b < 32768 → toZ w16 b ≡ pos b

@@ -1,4 +1,4 @@
--- The signed sum is out of range exactly if the carries into and out of bit 7 differ.
+-- Sums of bytes: the signed one is out of range exactly if the carries into and out of bit 7 differ.
 use mathlib.Core.Bool.{Bool, true, false}
 use mathlib.Core.Path.{_≡_, refl, ap, _∙_}
 use Prim.Native.Nat.{ℕ, zero, suc, _+_, _*_, _/_, _%_, _<_, _≤_}
@@ -6,7 +6,7 @@ use native.Mathlib.Omega.{arith}
 use borrow.Author.Tests.{ltb-true, ltb-false}
 use lib.Dec.{ltb}
 use Rattle.cpu.specs.Alu.{raised, overflowOf}
-use Rattle.cpu.specs.Choice.{if_then_else_}
+use Rattle.common.specs.Choice.{if_then_else_}
 
 one-negative : (low c : ℕ) → low < 256 → c ≡ (low + 128) / 256 → (t : Bool) → ltb low 128 ≡ t → (low / 128 + c) % 2 ≡ 0
 one-negative low c l e true h = let g : low < 128 = ltb-true _ _ h in omega arith
@@ -70,3 +70,7 @@ bank-kept psl cc idc ovf c l m =
     let e : cc * 64 + idc * 32 + psl / 8 % 4 * 8 + ovf * 4 + psl / 2 % 2 * 2 + c ≡ cc * 64 + idc * 32 + psl / 8 % 4 * 8 + (ovf * 4 + psl / 2 % 2 * 2 + c) = omega arith in
     let f : psl / 8 % 4 / 2 ≡ psl / 16 % 2 = omega arith in
     ap (λ (n : ℕ). n / 16 % 2) e ∙ third-part cc idc (psl / 8 % 4) (ovf * 4 + psl / 2 % 2 * 2 + c) (omega arith) (omega arith) ∙ f
+
+-- one less, modulo 256
+pub stepped-down : (r : ℕ) {v : ℕ} → r < 256 → (r + 1) % 256 ≡ v → r ≡ (v + 255) % 256
+stepped-down r h e = omega arith

@@ -5,8 +5,8 @@ use Prim.Native.Nat.{ℕ, _+_, _*_, _/_, _%_, _-_}
 use lib.Dec.{eqb, ltb}
 use lib.ListN.{getD, length}
 use lib.IntN.{ℤ, pos, negsuc}
-use Rattle.cpu.specs.Choice.{if_then_else_}
-use Rattle.cpu.specs.declared.address.Address.{Address}
+use Rattle.common.specs.Choice.{if_then_else_}
+use Rattle.common.specs.declared.places.Address.{Address}
 use Rattle.cpu.specs.declared.address.Fetched.{Fetched}
 use Rattle.cpu.specs.declared.address.Fetched.the-variants.{Byte, NoByte}
 use Rattle.cpu.specs.declared.address.Located.{Located}

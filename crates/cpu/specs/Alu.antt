@@ -5,7 +5,7 @@ use lib.Dec.{eqb, ltb}
 use lib.Bits.{bitAnd, bitOr, bitXor}
 use lib.IntN.{ℤ, pos, negsuc}
 use lib.Signed.{ltZ}
-use Rattle.cpu.specs.Choice.{if_then_else_}
+use Rattle.common.specs.Choice.{if_then_else_}
 use Rattle.cpu.specs.State.{bitC, bitCOM, bitWC, bitIDC}
 use Rattle.cpu.specs.declared.alu.Outcome.{Outcome}
 use Rattle.cpu.specs.declared.decode.Operation.{Operation}

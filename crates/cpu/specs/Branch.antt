@@ -2,13 +2,13 @@
 -- "Detailed Processor Instructions").
 use mathlib.Core.Bool.{Bool, true, false, not}
 use mathlib.Core.List.{List}
-use Prim.Native.Nat.{ℕ, _+_, _*_, _/_, _%_}
+use Prim.Native.Nat.{ℕ, _+_, _/_, _%_}
 use lib.Dec.{eqb}
 use Rattle.cpu.specs.Address.{onward, fetchOf, withByte, withAddress, addressOf, throughOf, relativeOf}
-use Rattle.cpu.specs.Choice.{if_then_else_}
+use Rattle.common.specs.Choice.{if_then_else_}
 use Rattle.cpu.specs.Result.{Stepped, goingOf, stoppedOf, afterOf, advancedOf}
-use Rattle.cpu.specs.State.{fieldCC, pslOf, psuOf, registerOf, withRegister, withCounter, withPsu, calledOf, returnedOf}
-use Rattle.cpu.specs.declared.address.Address.{Address}
+use Rattle.cpu.specs.State.{fieldCC, withoutII, pslOf, psuOf, registerOf, withRegister, withCounter, withPsu, calledOf, returnedOf}
+use Rattle.common.specs.declared.places.Address.{Address}
 use Rattle.cpu.specs.declared.branch.Target.{Target}
 use Rattle.cpu.specs.declared.branch.Target.the-variants.{To, NoTarget}
 use Rattle.cpu.specs.declared.decode.Kind.{Kind}
@@ -68,47 +68,47 @@ branchedOf kind cpu counted window r indirect a next =
     then withAddress (throughOf window indirect a) (stoppedOf cpu 6) (λ t. jumpedOf (callsOf kind) counted t next)
     else goingOf (withCounter counted next)
 
--- what a branch's own bytes say: the indirect bit, the address, and the address of the next instruction.
--- Two bytes with a displacement, or three with fifteen bits of address
-abbrev pub reachedOf : Reach → Cpu → List ℕ → ℕ → Target
-reachedOf Near cpu window second = To (second / 128) (relativeOf (afterOf cpu 2) second) (afterOf cpu 2)
-reachedOf Far cpu window second =
-    withByte (fetchOf window (afterOf cpu 2)) NoTarget (λ third. To (second / 128) (addressOf second third) (afterOf cpu 3))
+-- what the own bytes of a branch of k bytes say: the indirect bit, the address, and the address of the next instruction.
+-- The second byte has a displacement, or begins fifteen bits of address
+abbrev pub reachedOf : Reach → Cpu → ℕ → List ℕ → ℕ → Target
+reachedOf Near cpu k window second = To (second / 128) (relativeOf (afterOf cpu k) second) (afterOf cpu k)
+reachedOf Far cpu k window second =
+    withByte (fetchOf window (afterOf cpu 2)) NoTarget (λ third. To (second / 128) (addressOf second third) (afterOf cpu k))
 
-unfoldable pub targetOf : Reach → Cpu → List ℕ → Target
-targetOf reach cpu window = withByte (fetchOf window (afterOf cpu 1)) NoTarget (λ second. reachedOf reach cpu window second)
+unfoldable pub targetOf : Reach → Cpu → ℕ → List ℕ → Target
+targetOf reach cpu k window = withByte (fetchOf window (afterOf cpu 1)) NoTarget (λ second. reachedOf reach cpu k window second)
 
 abbrev pub withTarget : {A : Type 0} → Target → A → (ℕ → Address → Address → A) → A
 withTarget (To indirect a next) stop go = go indirect a next
 withTarget NoTarget stop go = stop
 
 -- the bytes of a branch that is not taken are fetched all the same
-unfoldable pub branchOf : Reach → Kind → Cpu → List ℕ → ℕ → Stepped
-branchOf reach kind cpu window r =
-    withTarget (targetOf reach cpu window) (stoppedOf cpu 6) (λ indirect a next.
+unfoldable pub branchOf : Reach → Kind → Cpu → ℕ → List ℕ → ℕ → Stepped
+branchOf reach kind cpu k window r =
+    withTarget (targetOf reach cpu k window) (stoppedOf cpu 6) (λ indirect a next.
     branchedOf kind cpu (countedOf kind cpu r) window r indirect a next)
 
 -- ZBRR and ZBSR: the displacement is from address 0, in page 0
-unfoldable pub zeroBranchOf : Bool → Cpu → List ℕ → Stepped
-zeroBranchOf calls cpu window =
+unfoldable pub zeroBranchOf : Bool → Cpu → ℕ → List ℕ → Stepped
+zeroBranchOf calls cpu k window =
     withByte (fetchOf window (afterOf cpu 1)) (stoppedOf cpu 6) (λ second.
     withAddress (throughOf window (second / 128) (relativeOf (record { 0 = 0 }) second)) (stoppedOf cpu 6) (λ t.
-    jumpedOf calls cpu t (afterOf cpu 2)))
+    jumpedOf calls cpu t (afterOf cpu k)))
 
 -- BXA and BSXA: R3 is added, modulo 32,768
-unfoldable pub indexedBranchOf : Bool → Cpu → List ℕ → Stepped
-indexedBranchOf calls cpu window =
+unfoldable pub indexedBranchOf : Bool → Cpu → ℕ → List ℕ → Stepped
+indexedBranchOf calls cpu k window =
     withByte (fetchOf window (afterOf cpu 1)) (stoppedOf cpu 6) (λ second.
     withByte (fetchOf window (afterOf cpu 2)) (stoppedOf cpu 6) (λ third.
     withAddress (throughOf window (second / 128) (addressOf second third)) (stoppedOf cpu 6) (λ t.
-    jumpedOf calls cpu (onward t (registerOf cpu 3)) (afterOf cpu 3))))
+    jumpedOf calls cpu (onward t (registerOf cpu 3)) (afterOf cpu k))))
 
--- RETC, and RETE, which clears II (bit 5 of PSU) if it is taken
-unfoldable pub returnIfOf : Cpu → ℕ → Stepped
-returnIfOf cpu v = if meetsOf (pslOf cpu) v then goingOf (returnedOf cpu) else goingOf (advancedOf cpu 1)
+-- RETC, and RETE, which clears II if it is taken
+unfoldable pub returnIfOf : Cpu → ℕ → ℕ → Stepped
+returnIfOf cpu k v = if meetsOf (pslOf cpu) v then goingOf (returnedOf cpu) else goingOf (advancedOf cpu k)
 
 unfoldable pub enabledOf : Cpu → Cpu
-enabledOf cpu = withPsu cpu (psuOf cpu / 64 * 64 + psuOf cpu % 32)
+enabledOf cpu = withPsu cpu (withoutII (psuOf cpu))
 
-unfoldable pub returnEnableOf : Cpu → ℕ → Stepped
-returnEnableOf cpu v = if meetsOf (pslOf cpu) v then goingOf (enabledOf (returnedOf cpu)) else goingOf (advancedOf cpu 1)
+unfoldable pub returnEnableOf : Cpu → ℕ → ℕ → Stepped
+returnEnableOf cpu k v = if meetsOf (pslOf cpu) v then goingOf (enabledOf (returnedOf cpu)) else goingOf (advancedOf cpu k)

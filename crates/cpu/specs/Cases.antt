@@ -5,30 +5,24 @@ use Prim.Native.Nat.{ℕ}
 use Rattle.cpu.specs.Address.{fetchOf, withByte, withAddress, pointerOf, throughOf, displacementOf, displacedOf, relativeOf}
 use Rattle.cpu.specs.Alu.{conditionOf, overflowOf, addedOf, carryInOf, loadedOf, signedOf, compareOf, comparedOf, operateOf, rotateLeftOf, digitOf, decimalOf}
 use Rattle.cpu.specs.Branch.{meetsOf, countedOf, takenOf, callsOf, jumpedOf, branchedOf, targetOf, branchOf}
-use Rattle.cpu.specs.Choice.{if_then_else_}
+use Rattle.common.specs.Choice.{if_then_else_}
 use Rattle.cpu.specs.Decode.{fourOf, firstOf, lastOf, decodeOf}
-use Rattle.cpu.specs.Machine.{Machine, effectOf, machineStep}
+use Rattle.cpu.specs.Machine.{Machine, restingState, withStatus, effectOf, machineStep}
 use Rattle.cpu.specs.Operand.{immediateOperandOf, operandOf, withOperandOf}
 use Rattle.cpu.specs.Result.{advancedOf, appliedOf, changedOf, operatedOf}
-use Rattle.cpu.specs.State.{counterOf, psuOf, pslOf, registerIndex, registerOf, returnOf, withCounter, withRegister, withPsu, withPsl, withReturn, calledOf}
+use Rattle.cpu.specs.State.{freshCpu, counterOf, psuOf, pslOf, registerIndex, registerOf, returnOf, withCounter, withRegister, withPsu, withPsl, withReturn, calledOf}
 use Rattle.cpu.specs.Instruction.{executeOf, stepOf}
 use Rattle.cpu.specs.Port.{readOf}
 use Rattle.cpu.specs.declared.state.Cpu.{Cpu}
 
 -- counter, R0, PSU and PSL as given; the other registers and the return addresses zero
 abbrev pub cpuWith : ℕ → ℕ → ℕ → ℕ → Cpu
-cpuWith counter r0 psu psl =
-    record {
-      counter = counter;
-      registers = r0 ∷ 0 ∷ 0 ∷ 0 ∷ 0 ∷ 0 ∷ 0 ∷ [];
-      psu = psu;
-      psl = psl;
-      returns = 0 ∷ 0 ∷ 0 ∷ 0 ∷ 0 ∷ 0 ∷ 0 ∷ 0 ∷ [];
-    }
+cpuWith counter r0 psu psl = withPsl (withPsu (withRegister (freshCpu (record { 0 = counter })) 0 r0) psu) psl
 
 -- a machine with that window, nothing to read and room for one byte
 abbrev pub machineWith : ℕ → Cpu → List ℕ → Machine
-machineWith status cpu window = record { cpu = cpu; status = status; window = window; input = 0 ∷ []; output = 0 ∷ []; filled = 0; read = 0; written = 0 }
+machineWith status cpu window =
+    record { state = withStatus status (restingState cpu); window = window; input = 0 ∷ []; output = 0 ∷ [] }
 
 -- one step of a running machine leaves it running, with the window as it was
 abbrev Steps : Cpu → List ℕ → Cpu → Type 0
@@ -44,9 +38,9 @@ pub record Worked : Type 0 where
   pub k6 : Steps (cpuWith 0 0xC2 0 0x20) (0x94 ∷ []) (cpuWith 1 0x62 0 0x60)
   pub k7 : Steps (cpuWith 0 0 0 0) (0x1B ∷ 0x40 ∷ []) (cpuWith 0x1FC2 0 0 0)
   pub k8 : Steps (cpuWith 0 0x80 0 0x00) (0xD0 ∷ []) (cpuWith 1 0x01 0 0x40)
-  pub k9 : machineStep (machineWith 1 (cpuWith 0 0 7 0) (0x3F ∷ 0x00 ∷ 0x10 ∷ [])) .cpu .psu ≡ 0
+  pub k9 : machineStep (machineWith 1 (cpuWith 0 0 7 0) (0x3F ∷ 0x00 ∷ 0x10 ∷ [])) .state .cpu .psu ≡ 0
   pub k12 : machineStep (machineWith 1 (cpuWith 0 5 0 0) (0x70 ∷ [])) ≡ machineWith 3 (cpuWith 0 5 0 0) (0x70 ∷ [])
 
 pub worked : Worked
-unfolding fetchOf withByte withAddress pointerOf throughOf displacementOf displacedOf relativeOf conditionOf overflowOf addedOf carryInOf loadedOf signedOf compareOf comparedOf operateOf rotateLeftOf digitOf decimalOf meetsOf countedOf takenOf callsOf jumpedOf branchedOf targetOf branchOf if_then_else_ fourOf firstOf lastOf decodeOf effectOf machineStep immediateOperandOf operandOf withOperandOf advancedOf appliedOf changedOf operatedOf counterOf psuOf pslOf registerIndex registerOf returnOf withCounter withRegister withPsu withPsl withReturn calledOf readOf executeOf stepOf
+unfolding freshCpu fetchOf withByte withAddress pointerOf throughOf displacementOf displacedOf relativeOf conditionOf overflowOf addedOf carryInOf loadedOf signedOf compareOf comparedOf operateOf rotateLeftOf digitOf decimalOf meetsOf countedOf takenOf callsOf jumpedOf branchedOf targetOf branchOf if_then_else_ fourOf firstOf lastOf decodeOf effectOf machineStep immediateOperandOf operandOf withOperandOf advancedOf appliedOf changedOf operatedOf counterOf psuOf pslOf registerIndex registerOf returnOf withCounter withRegister withPsu withPsl withReturn calledOf readOf executeOf stepOf
 worked = record { k1 = refl; k2 = refl; k3 = refl; k4 = refl; k5 = refl; k5-unsigned = refl; k6 = refl; k7 = refl; k8 = refl; k9 = refl; k12 = refl }

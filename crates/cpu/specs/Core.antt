@@ -4,7 +4,7 @@ use mathlib.Core.List.{List, [], _∷_}
 use Prim.Native.Nat.{ℕ, _+_, _*_, _/_, _%_, _-_, _^_}
 use lib.Dec.{eqb}
 use lib.ListN.{getD}
-use Rattle.cpu.specs.Choice.{if_then_else_}
+use Rattle.common.specs.Choice.{if_then_else_}
 use Rattle.cpu.specs.Operand.{Operand, Found, NoOperand, dataRegisterOf}
 use Rattle.cpu.specs.Result as result
 use Rattle.cpu.specs.Result.{Effect, Ports, Stepped}

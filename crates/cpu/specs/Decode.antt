@@ -4,14 +4,16 @@ use mathlib.Core.List.{List, [], _∷_}
 use Prim.Native.Nat.{ℕ, _/_, _%_}
 use lib.Dec.{eqb}
 use lib.ListN.{getD}
-use Rattle.cpu.specs.Choice.{if_then_else_}
+use Rattle.common.specs.Choice.{if_then_else_}
 use Rattle.cpu.specs.declared.decode.Operation.the-variants.{Lod, Eor, And, Ior, Add, Sub, Com}
+use Rattle.cpu.specs.declared.decode.Mode.{Mode}
 use Rattle.cpu.specs.declared.decode.Mode.the-variants.{Register, Immediate, Relative, Absolute}
 use Rattle.cpu.specs.declared.decode.Use.the-variants.{Read, Write}
+use Rattle.cpu.specs.declared.decode.Reach.{Reach}
 use Rattle.cpu.specs.declared.decode.Reach.the-variants.{Near, Far}
 use Rattle.cpu.specs.declared.decode.Kind.the-variants.{Bct, Bcf, Brn, Bir, Bdr, Bst, Bsf, Bsn}
 use Rattle.cpu.specs.declared.decode.Instruction.{Instruction}
-use Rattle.cpu.specs.declared.decode.Instruction.the-variants.{Unknown, UnusedPort, Operate, Strz, Nop, Halt, Spsu, Spsl, Lpsu, Lpsl, Cpsu, Cpsl, Ppsu, Ppsl, Tpsu, Tpsl, Tmi, Dar, Rrr, Rrl, Redd, Wrtd, Retc, Rete, Branch, Zbrr, Zbsr, Bxa, Bsxa}
+use Rattle.cpu.specs.declared.decode.Instruction.the-variants.{Unknown, UnusedPort, ExtendedPort, Operate, Strz, Nop, Halt, Spsu, Spsl, Lpsu, Lpsl, Cpsu, Cpsl, Ppsu, Ppsl, Tpsu, Tpsl, Tmi, Dar, Rrr, Rrl, Redd, Wrtd, Retc, Rete, Branch, Zbrr, Zbsr, Bxa, Bsxa}
 
 -- all four codes of a class alike
 abbrev pub each : Instruction → ℕ → Instruction
@@ -51,7 +53,7 @@ classes =
     each (Operate Relative (Read And)) ∷  -- 48 ANDR
     each (Operate Absolute (Read And)) ∷  -- 4C ANDA
     each Rrr ∷  -- 50 RRR
-    each UnusedPort ∷  -- 54 REDE
+    each ExtendedPort ∷  -- 54 REDE
     each (Branch Near Brn) ∷  -- 58 BRNR
     each (Branch Far Brn) ∷  -- 5C BRNA
     each (Operate Register (Read Ior)) ∷  -- 60 IORZ
@@ -83,7 +85,7 @@ classes =
     each (Operate Relative Write) ∷  -- C8 STRR
     each (Operate Absolute Write) ∷  -- CC STRA
     each Rrl ∷  -- D0 RRL
-    each UnusedPort ∷  -- D4 WRTE
+    each ExtendedPort ∷  -- D4 WRTE
     each (Branch Near Bir) ∷  -- D8 BIRR
     each (Branch Far Bir) ∷  -- DC BIRA
     each (Operate Register (Read Com)) ∷  -- E0 COMZ
@@ -98,3 +100,47 @@ classes =
 
 unfoldable pub decodeOf : ℕ → Instruction
 decodeOf op = getD classes (op / 4) (each Unknown) (op % 4)
+
+-- how many bytes an instruction has: by the mode of its operand, and by the reach of a branch
+abbrev pub modeLength : Mode → ℕ
+modeLength Register = 1
+modeLength Immediate = 2
+modeLength Relative = 2
+modeLength Absolute = 3
+
+abbrev pub reachLength : Reach → ℕ
+reachLength Near = 2
+reachLength Far = 3
+
+-- the manual gives an unknown code no length: it counts as one byte
+abbrev pub lengthOf : Instruction → ℕ
+lengthOf Unknown = 1
+lengthOf UnusedPort = 1
+lengthOf ExtendedPort = 2
+lengthOf (Operate mode usage) = modeLength mode
+lengthOf Strz = 1
+lengthOf Nop = 1
+lengthOf Halt = 1
+lengthOf Spsu = 1
+lengthOf Spsl = 1
+lengthOf Lpsu = 1
+lengthOf Lpsl = 1
+lengthOf Cpsu = 2
+lengthOf Cpsl = 2
+lengthOf Ppsu = 2
+lengthOf Ppsl = 2
+lengthOf Tpsu = 2
+lengthOf Tpsl = 2
+lengthOf Tmi = 2
+lengthOf Dar = 1
+lengthOf Rrr = 1
+lengthOf Rrl = 1
+lengthOf Redd = 1
+lengthOf Wrtd = 1
+lengthOf Retc = 1
+lengthOf Rete = 1
+lengthOf (Branch reach kind) = reachLength reach
+lengthOf Zbrr = 2
+lengthOf Zbsr = 2
+lengthOf Bxa = 3
+lengthOf Bsxa = 3

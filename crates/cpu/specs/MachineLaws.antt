@@ -1,15 +1,18 @@
 -- Laws that the checker has shown: what a step of the lone machine keeps. A layer above cites these, and no definition's text.
-use mathlib.Core.Bool.{Bool, true, false}
+use mathlib.Core.Bool.{Bool}
 use mathlib.Core.Path.{_≡_, refl, _∙_}
 use Prim.Native.Nat.{ℕ, zero, suc, _<_, _≤_}
 use native.Mathlib.Omega.{arith}
 use borrow.Author.Tests.{ltb-true, ltb-false, leb-true, leb-false}
 use lib.ListN.{length, length-set}
-use Rattle.cpu.specs.Choice.{if_then_else_}
 use Rattle.cpu.specs.Instruction.{stepOf}
-use Rattle.cpu.specs.Machine.{Machine, portsOf, effectOf, afterStep, machineStep, times}
-use Rattle.cpu.specs.Result.{Stepped}
-use Rattle.cpu.specs.StepLaws.{CpuSound, Ending, goes, halts, stores, takes, puts, wants, fills, stops, step-ends}
+use Rattle.cpu.specs.Machine.{Machine, withStatus, withState, portsOf, effectOf, afterStep, machineStep}
+use Rattle.common.specs.Repetition.{times}
+use Rattle.cpu.specs.Result.{Stepped, lastStatus}
+use Rattle.cpu.specs.Changes.{Keeps}
+use Rattle.cpu.specs.Invariants.{CpuSound, keeps-sound, CpuShaped, keeps-shaped}
+use Rattle.cpu.specs.StepLaws.{Ending, goes, halts, stores, takes, puts, wants, fills, stops, step-ends}
+use Rattle.cpu.specs.Ways.{if-all}
 
 -- a machine is changed into one that has its sizes
 pub record SameSizes (m n : Machine) : Type 0 where
@@ -19,46 +22,49 @@ pub record SameSizes (m n : Machine) : Type 0 where
 
 -- the machine of a slot in a sound table: document 01's rules for counter, return addresses, PSU, positions and status
 pub record MachineSound (m : Machine) : Type 0 where
-  pub cpu : CpuSound (m .cpu)
-  pub filled : m .filled ≤ length (m .input)
-  pub read : m .read ≤ m .filled
-  pub written : m .written ≤ length (m .output)
-  pub least : 1 ≤ m .status
-  pub most : m .status ≤ 7
-  pub wants : m .status ≡ 3 → m .read ≡ m .filled
-  pub full : m .status ≡ 4 → m .written ≡ length (m .output)
+  pub cpu : CpuSound (m .state .cpu)
+  pub filled : m .state .filled ≤ length (m .input)
+  pub read : m .state .read ≤ m .state .filled
+  pub written : m .state .written ≤ length (m .output)
+  pub least : 1 ≤ m .state .status
+  pub most : m .state .status ≤ lastStatus
+  pub wants : m .state .status ≡ 3 → m .state .read ≡ m .state .filled
+  pub full : m .state .status ≡ 4 → m .state .written ≡ length (m .output)
 
 -- the same machine at another status
-abbrev pub withStatus : ℕ → Machine → Machine
-withStatus n m = record { cpu = m .cpu; status = n; window = m .window; input = m .input; output = m .output; filled = m .filled; read = m .read; written = m .written }
+abbrev pub atStatus : ℕ → Machine → Machine
+atStatus n m = withState (withStatus n (m .state)) m
 
 -- what a step that is made leaves
-record Stepping (m n : Machine) : Type 0 where
+record Stepping (m n : Machine) : Type 1 where
   sizes : SameSizes m n
+  keeps : Keeps (m .state .cpu) (n .state .cpu)
   sound : MachineSound m → MachineSound n
-  undone : 3 ≤ n .status → n ≡ withStatus (n .status) m
+  undone : 3 ≤ n .state .status → n ≡ atStatus (n .state .status) m
 
 module _ (m : Machine) where
   -- a step that is carried out ends at status 1 or 2
-  carried : (n : Machine) → SameSizes m n → n .filled ≡ m .filled → 1 ≤ n .status → n .status < 3 → (CpuSound (m .cpu) → CpuSound (n .cpu)) → (m .read ≤ m .filled → n .read ≤ m .filled) → (m .written ≤ length (m .output) → n .written ≤ length (m .output)) → Stepping m n
+  carried : (n : Machine) → SameSizes m n → n .state .filled ≡ m .state .filled → 1 ≤ n .state .status → n .state .status < 3 → Keeps (m .state .cpu) (n .state .cpu) → (m .state .read ≤ m .state .filled → n .state .read ≤ m .state .filled) → (m .state .written ≤ length (m .output) → n .state .written ≤ length (m .output)) → Stepping m n
   carried n z f l h k r w =
       let i = z .input in
       let o = z .output in
       record {
         sizes = z;
+        keeps = k;
         sound = λ s.
             let a = s .filled in
-            let b : n .read ≤ m .filled = r (s .read) in
-            let c : n .written ≤ length (m .output) = w (s .written) in
-            record { cpu = k (s .cpu); filled = omega arith; read = omega arith; written = omega arith; least = l; most = omega arith; wants = λ e. absurd (omega arith); full = λ e. absurd (omega arith) };
+            let b : n .state .read ≤ m .state .filled = r (s .read) in
+            let c : n .state .written ≤ length (m .output) = w (s .written) in
+            record { cpu = keeps-sound k (s .cpu); filled = omega arith; read = omega arith; written = omega arith; least = l; most = omega arith; wants = λ e. absurd (omega arith); full = λ e. absurd (omega arith) };
         undone = λ e. absurd (omega arith);
       }
 
   -- one that is undone leaves all but the status
-  still : (n : ℕ) → 1 ≤ n → n ≤ 7 → (n ≡ 3 → m .filled ≤ m .read) → (n ≡ 4 → length (m .output) ≤ m .written) → Stepping m (withStatus n m)
+  still : (n : ℕ) → 1 ≤ n → n ≤ lastStatus → (n ≡ 3 → m .state .filled ≤ m .state .read) → (n ≡ 4 → length (m .output) ≤ m .state .written) → Stepping m (atStatus n m)
   still n l h w f =
       record {
         sizes = record { window = refl; input = refl; output = refl };
+        keeps = λ i s. s;
         sound = λ s.
             let r = s .read in
             let o = s .written in
@@ -69,49 +75,48 @@ module _ (m : Machine) where
               written = o;
               least = l;
               most = h;
-              wants = λ e. let x : m .filled ≤ m .read = w e in omega arith;
-              full = λ e. let x : length (m .output) ≤ m .written = f e in omega arith;
+              wants = λ e. let x : m .state .filled ≤ m .state .read = w e in omega arith;
+              full = λ e. let x : length (m .output) ≤ m .state .written = f e in omega arith;
             };
         undone = λ e. refl;
       }
 
-  ending-steps : {s : Stepped} → Ending (m .cpu) (m .window) (portsOf m) s → Stepping m (afterStep s m)
+  ending-steps : {wrtd : Bool} {s : Stepped} → Ending (m .state .cpu) (m .window) (portsOf m) wrtd s → Stepping m (afterStep s m)
   unfolding effectOf
   ending-steps (goes next k) = carried _ (record { window = refl; input = refl; output = refl }) refl (omega arith) (omega arith) k (λ r. r) (λ w. w)
   ending-steps (halts next k) = carried _ (record { window = refl; input = refl; output = refl }) refl (omega arith) (omega arith) k (λ r. r) (λ w. w)
   ending-steps (stores next a v k h) =
       carried _ (record { window = length-set (m .window) (a .0) v; input = refl; output = refl }) refl (omega arith) (omega arith) k (λ r. r) (λ w. w)
-  ending-steps (takes next k h) = carried _ (record { window = refl; input = refl; output = refl }) refl (omega arith) (omega arith) k (λ r. let x : m .read < m .filled = ltb-true _ _ h in omega arith) (λ w. w)
+  ending-steps (takes next k h) = carried _ (record { window = refl; input = refl; output = refl }) refl (omega arith) (omega arith) k (λ r. let x : m .state .read < m .state .filled = ltb-true _ _ h in omega arith) (λ w. w)
   ending-steps (puts next v k h) =
-      carried _ (record { window = refl; input = refl; output = length-set (m .output) (m .written) v }) refl (omega arith) (omega arith) k (λ r. r) (λ w.
-      let x : m .written < length (m .output) = leb-false _ _ h in omega arith)
+      carried _ (record { window = refl; input = refl; output = length-set (m .output) (m .state .written) v }) refl (omega arith) (omega arith) k (λ r. r) (λ w.
+      let x : m .state .written < length (m .output) = leb-false _ _ h in omega arith)
   ending-steps (wants h) = still 3 (omega arith) (omega arith) (λ e. ltb-false _ _ h) (λ e. absurd (omega arith))
   ending-steps (fills h) = still 4 (omega arith) (omega arith) (λ e. absurd (omega arith)) (λ e. leb-true _ _ h)
   ending-steps (stops n l h) = still n (omega arith) h (λ e. absurd (omega arith)) (λ e. absurd (omega arith))
 
-  -- at a status other than 1 nothing changes; at 1 the step ends in one of the eight ways
-  choose : (t : Bool) → (P : Machine → Type 0) → P m → P (afterStep (stepOf (m .cpu) (m .window) (portsOf m)) m) → P (if t then afterStep (stepOf (m .cpu) (m .window) (portsOf m)) m else m)
-  unfolding if_then_else_
-  choose true P rests steps = steps
-  choose false P rests steps = rests
-
-  made : Stepping m (afterStep (stepOf (m .cpu) (m .window) (portsOf m)) m)
-  made = ending-steps (step-ends (m .cpu) (m .window) (portsOf m))
+  made : Stepping m (afterStep (stepOf (m .state .cpu) (m .window) (portsOf m)) m)
+  made = ending-steps (step-ends (m .state .cpu) (m .window) (portsOf m))
 
   -- a step keeps the lengths of window and buffers
   pub step-sizes : SameSizes m (machineStep m)
   unfolding machineStep
-  step-sizes = choose _ (SameSizes m) (record { window = refl; input = refl; output = refl }) (made .sizes)
+  step-sizes = if-all (SameSizes m) (λ e. made .sizes) (λ e. record { window = refl; input = refl; output = refl })
+
+  -- a step keeps every invariant of the state
+  pub step-keeps : Keeps (m .state .cpu) (machineStep m .state .cpu)
+  unfolding machineStep
+  step-keeps i s = if-all (λ (n : Machine). i .OfCpu (n .state .cpu)) (λ e. made .keeps i s) (λ e. s)
 
   -- a step keeps a sound machine sound
   pub step-sound : MachineSound m → MachineSound (machineStep m)
   unfolding machineStep
-  step-sound s = choose _ MachineSound s (made .sound s)
+  step-sound s = if-all MachineSound (λ e. made .sound s) (λ e. s)
 
-  -- a step that ends at a status of 3 to 7 changes nothing but the status
-  pub step-undone : 3 ≤ machineStep m .status → machineStep m ≡ withStatus (machineStep m .status) m
+  -- a step that ends at a status from 3 on changes nothing but the status
+  pub step-undone : 3 ≤ machineStep m .state .status → machineStep m ≡ atStatus (machineStep m .state .status) m
   unfolding machineStep
-  step-undone = choose _ (λ (n : Machine). 3 ≤ n .status → n ≡ withStatus (n .status) m) (λ h. refl) (made .undone)
+  step-undone = if-all (λ (n : Machine). 3 ≤ n .state .status → n ≡ atStatus (n .state .status) m) (λ e. made .undone) (λ e h. refl)
 
 -- the same of many steps
 pub times-sizes : (n : ℕ) (m : Machine) → SameSizes m (times n machineStep m)
@@ -126,3 +131,12 @@ pub times-sound : (n : ℕ) (m : Machine) → MachineSound m → MachineSound (t
 unfolding times
 times-sound zero m s = s
 times-sound (suc n) m s = step-sound (times n machineStep m) (times-sound n m s)
+
+pub times-keeps : (n : ℕ) (m : Machine) → Keeps (m .state .cpu) (times n machineStep m .state .cpu)
+unfolding times
+times-keeps zero m i s = s
+times-keeps (suc n) m i s = step-keeps (times n machineStep m) i (times-keeps n m i s)
+
+-- seven registers and eight return addresses stay so many
+pub times-shaped : (n : ℕ) (m : Machine) → CpuShaped (m .state .cpu) → CpuShaped (times n machineStep m .state .cpu)
+times-shaped n m s = keeps-shaped (times-keeps n m) s

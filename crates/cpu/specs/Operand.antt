@@ -3,10 +3,10 @@ use mathlib.Core.List.{List}
 use Prim.Native.Nat.{ℕ, _+_, _*_, _/_, _%_}
 use lib.Dec.{eqb}
 use Rattle.cpu.specs.Address.{inPage, onward, fetchOf, withByte, withAddress, pointerOf, throughOf, relativeOf}
-use Rattle.cpu.specs.Choice.{if_then_else_}
+use Rattle.common.specs.Choice.{if_then_else_}
 use Rattle.cpu.specs.Result.{Stepped, Store, endedOf, stoppedOf, afterOf, advancedOf, operatedOf}
 use Rattle.cpu.specs.State.{counterOf, registerOf, withRegister}
-use Rattle.cpu.specs.declared.address.Address.{Address}
+use Rattle.common.specs.declared.places.Address.{Address}
 use Rattle.cpu.specs.declared.address.Located.{Located}
 use Rattle.cpu.specs.declared.address.Located.the-variants.{At, Outside}
 use Rattle.cpu.specs.declared.decode.Mode.{Mode}
@@ -50,37 +50,37 @@ dataRegisterOf control r = if eqb control 0 then r else 0
 unfoldable pub steppedIndexOf : Cpu → ℕ → ℕ → ℕ → Cpu
 steppedIndexOf cpu r control i = if eqb control 0 then cpu else withRegister cpu r i
 
--- one byte: the named register, used with R0
-unfoldable pub registerOperandOf : Cpu → ℕ → Operand
-registerOperandOf cpu r = Found (registerOf cpu r) nowhere 0 (advancedOf cpu 1)
+-- the operand of an instruction of k bytes, mode by mode. In a register: the one that the code names, used with R0
+unfoldable pub registerOperandOf : Cpu → ℕ → ℕ → Operand
+registerOperandOf cpu k r = Found (registerOf cpu r) nowhere 0 (advancedOf cpu k)
 
--- two bytes: the second is the operand
-unfoldable pub immediateOperandOf : Cpu → List ℕ → ℕ → Operand
-immediateOperandOf cpu window r =
-    withByte (fetchOf window (afterOf cpu 1)) NoOperand (λ b. Found b nowhere r (advancedOf cpu 2))
+-- immediate: the second byte
+unfoldable pub immediateOperandOf : Cpu → ℕ → List ℕ → ℕ → Operand
+immediateOperandOf cpu k window r =
+    withByte (fetchOf window (afterOf cpu 1)) NoOperand (λ b. Found b nowhere r (advancedOf cpu k))
 
--- two bytes: bit 7 for indirect, and a displacement from the next instruction
-unfoldable pub relativeOperandOf : Cpu → List ℕ → ℕ → Operand
-relativeOperandOf cpu window r =
+-- relative, by the second byte: bit 7 for indirect, and a displacement from the next instruction
+unfoldable pub relativeOperandOf : Cpu → ℕ → List ℕ → ℕ → Operand
+relativeOperandOf cpu k window r =
     withByte (fetchOf window (afterOf cpu 1)) NoOperand (λ second.
-    withAddress (throughOf window (second / 128) (relativeOf (afterOf cpu 2) second)) NoOperand (λ a.
+    withAddress (throughOf window (second / 128) (relativeOf (afterOf cpu k) second)) NoOperand (λ a.
     withByte (fetchOf window a) NoOperand (λ b.
-    Found b a r (advancedOf cpu 2))))
+    Found b a r (advancedOf cpu k))))
 
--- three bytes: bit 7 for indirect, bits 6 and 5 for indexing, and thirteen bits of address
-unfoldable pub absoluteOperandOf : Cpu → List ℕ → ℕ → Operand
-absoluteOperandOf cpu window r =
+-- absolute, by the second and the third byte: bit 7 for indirect, bits 6 and 5 for indexing, and thirteen bits of address
+unfoldable pub absoluteOperandOf : Cpu → ℕ → List ℕ → ℕ → Operand
+absoluteOperandOf cpu k window r =
     withByte (fetchOf window (afterOf cpu 1)) NoOperand (λ high.
     withByte (fetchOf window (afterOf cpu 2)) NoOperand (λ low.
     withAddress (indexedAddressOf window (high / 128) (dataAddressOf cpu high low) (indexOf (high / 32 % 4) (registerOf cpu r))) NoOperand (λ a.
     withByte (fetchOf window a) NoOperand (λ b.
-    Found b a (dataRegisterOf (high / 32 % 4) r) (advancedOf (steppedIndexOf cpu r (high / 32 % 4) (indexOf (high / 32 % 4) (registerOf cpu r))) 3)))))
+    Found b a (dataRegisterOf (high / 32 % 4) r) (advancedOf (steppedIndexOf cpu r (high / 32 % 4) (indexOf (high / 32 % 4) (registerOf cpu r))) k)))))
 
-unfoldable pub operandOf : Mode → Cpu → List ℕ → ℕ → Operand
-operandOf Register cpu window r = registerOperandOf cpu r
-operandOf Immediate cpu window r = immediateOperandOf cpu window r
-operandOf Relative cpu window r = relativeOperandOf cpu window r
-operandOf Absolute cpu window r = absoluteOperandOf cpu window r
+unfoldable pub operandOf : Mode → Cpu → ℕ → List ℕ → ℕ → Operand
+operandOf Register cpu k window r = registerOperandOf cpu k r
+operandOf Immediate cpu k window r = immediateOperandOf cpu k window r
+operandOf Relative cpu k window r = relativeOperandOf cpu k window r
+operandOf Absolute cpu k window r = absoluteOperandOf cpu k window r
 
 abbrev pub withOperand : {A : Type 0} → Operand → A → (ℕ → Address → ℕ → Cpu → A) → A
 withOperand (Found b a d cpu) stop go = go b a d cpu
@@ -92,6 +92,6 @@ usedOf (Read f) cpu d b a = operatedOf f cpu d b
 usedOf Write cpu d b a = endedOf cpu 1 (Store a (registerOf cpu d))
 
 -- an operand that is outside the window anywhere stops the instruction with status 6
-unfoldable pub withOperandOf : Mode → Use → Cpu → List ℕ → ℕ → Stepped
-withOperandOf mode usage cpu window r =
-    withOperand (operandOf mode cpu window r) (stoppedOf cpu 6) (λ b a d after. usedOf usage after d b a)
+unfoldable pub withOperandOf : Mode → Use → Cpu → ℕ → List ℕ → ℕ → Stepped
+withOperandOf mode usage cpu k window r =
+    withOperand (operandOf mode cpu k window r) (stoppedOf cpu 6) (λ b a d after. usedOf usage after d b a)

@@ -5,8 +5,9 @@ use mathlib.Core.Path.{_≡_}
 use Prim.Native.Nat.{ℕ, _+_, _%_, _-_, _<_, _≤_, min}
 use lib.Dec.{ltb, leb}
 use lib.ListN.{set, take, drop}
-use Rattle.cpu.specs.Choice.{if_then_else_}
-use Rattle.cpu.specs.Machine.{Machine}
+use Rattle.common.specs.Choice.{if_then_else_}
+use Rattle.cpu.specs.Machine.{Machine, withCpu, withStatus, withFilled, withRead, withWritten}
+use Rattle.cpu.specs.declared.machine.State.{State}
 use Rattle.cpu.specs.declared.partition.Bounds.{Bounds}
 use Rattle.cpu.specs.declared.partition.Positions.{Positions}
 use Rattle.cpu.specs.declared.result.Offer.{Offer}
@@ -39,18 +40,14 @@ pub record Parts (b : Bounds) (n : ℕ) : Type 0 where
   pub long : b .end < b .output + 65536
   pub filled : b .filled < 65536
 
--- the machine in the bytes, by the bounds
-unfoldable pub machineAt : Bounds → Cpu → ℕ → Positions → List ℕ → Machine
-machineAt b cpu status k l =
+-- the machine in the bytes, by the bounds: what a run does not touch is as in the state that it was given
+unfoldable pub machineAt : State → Bounds → Cpu → ℕ → Positions → List ℕ → Machine
+machineAt given b cpu status k l =
     record {
-      cpu = cpu;
-      status = status;
+      state = withWritten (k .written) (withRead (k .read) (withFilled (b .filled) (withStatus status (withCpu cpu given))));
       window = take (b .input) l;
       input = take (b .output - b .input) (drop (b .input) l);
       output = take (b .end - b .output) (drop (b .output) l);
-      filled = b .filled;
-      read = k .read;
-      written = k .written;
     }
 
 unfoldable pub offerOf : Bounds → Positions → Offer

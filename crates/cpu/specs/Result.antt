@@ -4,7 +4,7 @@ use Prim.Native.Nat.{ℕ}
 use Rattle.cpu.specs.Address.{inPage}
 use Rattle.cpu.specs.Alu.{operateOf}
 use Rattle.cpu.specs.State.{counterOf, pslOf, registerOf, withCounter, withRegister, withPsl}
-use Rattle.cpu.specs.declared.address.Address.{Address}
+use Rattle.common.specs.declared.places.Address.{Address}
 use Rattle.cpu.specs.declared.alu.Outcome.{Outcome}
 use Rattle.cpu.specs.declared.decode.Operation.{Operation}
 use Rattle.cpu.specs.declared.state.Cpu.{Cpu}
@@ -34,7 +34,11 @@ endedOf cpu n x = record { cpu = cpu; status = n; effect = x }
 abbrev pub goingOf : Cpu → Stepped
 goingOf cpu = endedOf cpu 1 Nothing
 
--- statuses 3 to 7: nothing of the instruction takes effect, and the counter remains at its first byte
+-- the last of the statuses
+abbrev pub lastStatus : ℕ
+lastStatus = 7
+
+-- statuses from 3 on: nothing of the instruction takes effect, and the counter remains at its first byte
 abbrev pub stoppedOf : Cpu → ℕ → Stepped
 stoppedOf cpu n = endedOf cpu n Nothing
 
@@ -50,9 +54,9 @@ advancedOf cpu k = withCounter cpu (afterOf cpu k)
 unfoldable pub appliedOf : Cpu → ℕ → Outcome → Cpu
 appliedOf cpu r o = withPsl (withRegister cpu r (o .value)) (o .psl)
 
--- an instruction of one byte that changes register r alone
-unfoldable pub changedOf : Cpu → ℕ → Outcome → Stepped
-changedOf cpu r o = goingOf (advancedOf (appliedOf cpu r o) 1)
+-- an instruction of k bytes that changes register r alone
+unfoldable pub changedOf : Cpu → ℕ → ℕ → Outcome → Stepped
+changedOf cpu k r o = goingOf (advancedOf (appliedOf cpu r o) k)
 
 -- an operation on register r and the operand b
 unfoldable pub operatedOf : Operation → Cpu → ℕ → ℕ → Stepped

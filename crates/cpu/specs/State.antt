@@ -2,9 +2,9 @@
 -- (document 01, "The machine"; manual, "Program Status Word").
 use Prim.Native.Nat.{ℕ, _+_, _*_, _/_, _%_}
 use lib.Dec.{eqb}
-use lib.ListN.{getD, set}
-use Rattle.cpu.specs.Choice.{if_then_else_}
-use Rattle.cpu.specs.declared.address.Address.{Address}
+use lib.ListN.{getD, set, replicate}
+use Rattle.common.specs.Choice.{if_then_else_}
+use Rattle.common.specs.declared.places.Address.{Address}
 use Rattle.cpu.specs.declared.state.Cpu.{Cpu}
 
 -- PSL by the manual's letters: carry, compare, with carry, register select, interdigit carry, condition code
@@ -33,9 +33,17 @@ fieldSP psu = psu % 8
 abbrev pub withSP : ℕ → ℕ → ℕ
 withSP psu sp = psu / 8 * 8 + sp
 
+-- PSU with II, its bit 5, clear
+abbrev pub withoutII : ℕ → ℕ
+withoutII psu = psu / 64 * 64 + psu % 32
+
 -- the bits of PSU that are stored: Flag, II and SP. Sense is never stored, and bits 4 and 3 are always zero
 abbrev pub storedPsu : ℕ → ℕ
 storedPsu v = v / 32 % 4 * 32 + v % 8
+
+-- a state before its first instruction: the counter there, registers, status words and return addresses zero
+unfoldable pub freshCpu : Address → Cpu
+freshCpu start = record { counter = start .0; registers = replicate 7 0; psu = 0; psl = 0; returns = replicate 8 0 }
 
 -- the parts of the state, by name
 unfoldable pub counterOf : Cpu → Address

@@ -4,7 +4,7 @@ use mathlib.Core.List.{List}
 use Prim.Native.Nat.{ℕ, _+_, _%_}
 use Rattle.cpu.specs.Address.{fetchOf, withByte}
 use Rattle.cpu.specs.Alu.{withCC, testOf}
-use Rattle.cpu.specs.Choice.{if_then_else_}
+use Rattle.common.specs.Choice.{if_then_else_}
 use Rattle.cpu.specs.Result.{Stepped, goingOf, stoppedOf, afterOf, advancedOf}
 use Rattle.cpu.specs.State.{pslOf, psuOf, withPsl}
 use Rattle.cpu.specs.declared.state.Cpu.{Cpu}
@@ -13,10 +13,10 @@ use Rattle.cpu.specs.declared.state.Cpu.{Cpu}
 unfoldable pub sensedOf : Cpu → Bool → ℕ
 sensedOf cpu unread = if unread then psuOf cpu % 128 + 128 else psuOf cpu % 128
 
--- two bytes: the state by the mask in the second
-unfoldable pub maskedOf : Cpu → List ℕ → (ℕ → Cpu) → Stepped
-maskedOf cpu window f = withByte (fetchOf window (afterOf cpu 1)) (stoppedOf cpu 6) (λ mask. goingOf (advancedOf (f mask) 2))
+-- an instruction of k bytes: the state by the mask in the second
+unfoldable pub maskedOf : Cpu → ℕ → List ℕ → (ℕ → Cpu) → Stepped
+maskedOf cpu k window f = withByte (fetchOf window (afterOf cpu 1)) (stoppedOf cpu 6) (λ mask. goingOf (advancedOf (f mask) k))
 
 -- CC by a test of v under the mask
-unfoldable pub testedOf : Cpu → List ℕ → ℕ → Stepped
-testedOf cpu window v = maskedOf cpu window (λ mask. withPsl cpu (withCC (pslOf cpu) (testOf v mask)))
+unfoldable pub testedOf : Cpu → ℕ → List ℕ → ℕ → Stepped
+testedOf cpu k window v = maskedOf cpu k window (λ mask. withPsl cpu (withCC (pslOf cpu) (testOf v mask)))

@@ -2,9 +2,7 @@ ghost use mathlib.Core.Path.{_≡_};
 ghost use Prim.Native.Nat.{_<_};
 ghost use lib.Signed.{mag};
 ghost use Rattle.cpu.specs.Address.{inPage, onward, addressOf, fetchOf, pointerOf, throughOf, displacementOf, displacedOf, relativeOf};
-
-// A machine address: a place in the window, and never one in memory.
-pub struct Address(pub u16);
+use common::Address;
 
 pub enum Fetched {
     Byte(u8),

@@ -42,27 +42,30 @@ fn with_flags(psl: u8, cc: u8, idc: u8, ovf: u8, c: u8) -> u8
     cc * 64 + idc * 32 + psl / 8 % 4 * 8 + ovf * 4 + psl / 2 % 2 * 2 + c
 }
 
-fn sum(a: u8, b: u8, k: u8) -> u8
-    ensures { λ r. ⌜ r ≡ sumOf a b k ⌝ }
-{
-    let t = std::num::wrapping_add_u8(a, b);
-    std::num::wrapping_add_u8(t, k)
+// A sum of eight bits, and the carry out of bit 7.
+pub struct Sum {
+    pub value: u8,
+    pub carry: u8,
 }
 
-// The carry, recovered: a sum that wrapped is below what was added to.
-fn carry(a: u8, b: u8, k: u8) -> u8
-    requires { ⌜ k < 2 ⌝ }
-    ensures { λ r. ⌜ r ≡ carryOf a b k ⌝ }
-    ensures { λ r. ⌜ r < 2 ⌝ }
-{
-    let t = std::num::wrapping_add_u8(a, b);
-    let s = std::num::wrapping_add_u8(t, k);
-    if t < a {
-        1
-    } else if s < t {
-        1
-    } else {
-        0
+impl Sum {
+    // A sum hands back value and carry together. The carry is recovered beside the value: a sum that wrapped is below what was
+    // added to.
+    fn of(a: u8, b: u8, k: u8) -> Sum
+        requires { ⌜ k < 2 ⌝ }
+        ensures { λ s. ⌜ s .value ≡ sumOf a b k ⌝ }
+        ensures { λ s. ⌜ s .carry ≡ carryOf a b k ⌝ }
+        ensures { λ s. ⌜ s .carry < 2 ⌝ }
+    {
+        let t = std::num::wrapping_add_u8(a, b);
+        let value = std::num::wrapping_add_u8(t, k);
+        if t < a {
+            Sum { value, carry: 1 }
+        } else if value < t {
+            Sum { value, carry: 1 }
+        } else {
+            Sum { value, carry: 0 }
+        }
     }
 }
 
@@ -75,13 +78,14 @@ fn digit_carry(a: u8, b: u8, k: u8) -> u8
 }
 
 // The signed sum is out of range exactly if the carries into and out of bit 7 differ.
-fn overflow(a: u8, b: u8, k: u8) -> u8
+fn overflow(a: u8, b: u8, k: u8, out: u8) -> u8
     requires { ⌜ k < 2 ⌝ }
+    requires { ⌜ out ≡ carryOf a b k ⌝ }
+    requires { ⌜ out < 2 ⌝ }
     ensures { λ r. ⌜ r ≡ overflowOf a b k ⌝ }
     ensures { λ r. ⌜ r < 2 ⌝ }
 {
     let into = (a % 128 + b % 128 + k) / 128;
-    let out = carry(a, b, k);
     (into + out) % 2
 }
 
@@ -90,14 +94,13 @@ fn added(psl: u8, a: u8, b: u8, k: u8) -> Outcome
     ensures { λ o. ⌜ o ≡ addedOf psl a b k ⌝ }
     ensures { λ o. ⌜ bitRS (o .psl) ≡ bitRS psl ⌝ }
 {
-    let value = sum(a, b, k);
-    let cc = condition(value);
+    let s = Sum::of(a, b, k);
+    let cc = condition(s.value);
     let idc = digit_carry(a, b, k);
-    let ovf = overflow(a, b, k);
-    let c = carry(a, b, k);
+    let ovf = overflow(a, b, k, s.carry);
     Outcome {
-        value,
-        psl: with_flags(psl, cc, idc, ovf, c),
+        value: s.value,
+        psl: with_flags(psl, cc, idc, ovf, s.carry),
     }
 }
 

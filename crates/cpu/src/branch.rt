@@ -2,9 +2,9 @@ ghost use mathlib.Core.Bool.{not};
 ghost use mathlib.Core.Path.{_≡_};
 ghost use Prim.Native.Nat.{_<_};
 ghost use Rattle.cpu.specs.Branch.{meetsOf, countedOf, notZeroOf, takenOf, callsOf, jumpedOf, branchedOf, targetOf, branchOf, zeroBranchOf, indexedBranchOf, returnIfOf, enabledOf, returnEnableOf};
+ghost use Rattle.cpu.specs.Decode.{reachLength};
 ghost use Rattle.cpu.specs.Core.{cpuOf, steppedOf};
 use crate::address;
-use crate::address::Address;
 use crate::address::Fetched;
 use crate::address::Located;
 use crate::core;
@@ -13,6 +13,7 @@ use crate::decode::Kind;
 use crate::decode::Reach;
 use crate::result;
 use crate::result::Next;
+use common::Address;
 
 // What a branch's own bytes say: the indirect bit, the address, and the address of the next instruction.
 pub enum Target {
@@ -55,7 +56,7 @@ fn counted(kind: Kind, m: Core, r: u8) -> Core
         }
         Kind::Bdr => {
             let v = core::register(m, r);
-            let u = std::num::wrapping_add_u8(v, 255);
+            let u = std::num::wrapping_sub_u8(v, 1);
             core::with_register(m, r, u)
         }
         Kind::Bct => m,
@@ -137,7 +138,7 @@ fn branched(
 }
 
 fn aim(reach: Reach, m: Core, window: &[u8]) -> Target
-    ensures { λ t. ⌜ t ≡ targetOf reach (cpuOf m) (now (window .entry)) ⌝ }
+    ensures { λ t. ⌜ t ≡ targetOf reach (cpuOf m) (reachLength reach) (now (window .entry)) ⌝ }
 {
     let first = result::after(m, 1);
     let Fetched::Byte(high) = address::fetch(window, first) else {
@@ -162,7 +163,7 @@ fn aim(reach: Reach, m: Core, window: &[u8]) -> Target
 
 pub(crate) fn branch(reach: Reach, kind: Kind, m: Core, window: &[u8], r: u8) -> Next
     requires { ⌜ r < 4 ⌝ }
-    ensures { λ s. ⌜ steppedOf s ≡ branchOf reach kind (cpuOf m) (now (window .entry)) r ⌝ }
+    ensures { λ s. ⌜ steppedOf s ≡ branchOf reach kind (cpuOf m) (reachLength reach) (now (window .entry)) r ⌝ }
 {
     let Target::To(indirect, a, next) = aim(reach, m, window) else {
         return result::stopped(m, 6);
@@ -172,7 +173,7 @@ pub(crate) fn branch(reach: Reach, kind: Kind, m: Core, window: &[u8], r: u8) ->
 }
 
 pub(crate) fn zero_branch(call: bool, m: Core, window: &[u8]) -> Next
-    ensures { λ s. ⌜ steppedOf s ≡ zeroBranchOf call (cpuOf m) (now (window .entry)) ⌝ }
+    ensures { λ s. ⌜ steppedOf s ≡ zeroBranchOf call (cpuOf m) 2 (now (window .entry)) ⌝ }
 {
     let at = result::after(m, 1);
     let Fetched::Byte(b) = address::fetch(window, at) else {
@@ -187,7 +188,7 @@ pub(crate) fn zero_branch(call: bool, m: Core, window: &[u8]) -> Next
 }
 
 pub(crate) fn indexed_branch(call: bool, m: Core, window: &[u8]) -> Next
-    ensures { λ s. ⌜ steppedOf s ≡ indexedBranchOf call (cpuOf m) (now (window .entry)) ⌝ }
+    ensures { λ s. ⌜ steppedOf s ≡ indexedBranchOf call (cpuOf m) 3 (now (window .entry)) ⌝ }
 {
     let first = result::after(m, 1);
     let Fetched::Byte(high) = address::fetch(window, first) else {
@@ -208,7 +209,7 @@ pub(crate) fn indexed_branch(call: bool, m: Core, window: &[u8]) -> Next
 }
 
 pub(crate) fn return_if(m: Core, v: u8) -> Next
-    ensures { λ s. ⌜ steppedOf s ≡ returnIfOf (cpuOf m) v ⌝ }
+    ensures { λ s. ⌜ steppedOf s ≡ returnIfOf (cpuOf m) 1 v ⌝ }
 {
     if meets(core::psl(m), v) {
         let n = core::ret(m);
@@ -227,7 +228,7 @@ fn enabled(m: Core) -> Core
 }
 
 pub(crate) fn return_enable(m: Core, v: u8) -> Next
-    ensures { λ s. ⌜ steppedOf s ≡ returnEnableOf (cpuOf m) v ⌝ }
+    ensures { λ s. ⌜ steppedOf s ≡ returnEnableOf (cpuOf m) 1 v ⌝ }
 {
     if meets(core::psl(m), v) {
         let n = core::ret(m);

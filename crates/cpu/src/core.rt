@@ -3,8 +3,8 @@ ghost use mathlib.Core.List.{[], _∷_};
 ghost use Prim.Native.Nat.{_<_};
 ghost use Rattle.cpu.specs.Core.{byteAt, putByte, quarterAt, putQuarter, bytesOf, bankedOf, cpuOf};
 ghost use Rattle.cpu.specs.State.{bitRS, counterOf, psuOf, pslOf, registerOf, returnOf, withCounter, withRegister, withPsu, withPsl, withReturn, calledOf, returnedOf};
-use crate::address::Address;
 use crate::state::Cpu;
+use common::Address;
 
 // The state while it runs: whole words only, so that the compiler keeps each in a register of its own.
 // `registers` has R0 in its lowest byte, then R1 to R3 of the bank in use, then those of the other bank.

@@ -1,6 +1,7 @@
 ghost use mathlib.Core.Path.{_≡_};
 ghost use Prim.Native.Nat.{_<_};
 ghost use Rattle.cpu.specs.Core.{cpuOf, steppedOf, offeredOf};
+ghost use Rattle.cpu.specs.Decode.{lengthOf};
 ghost use Rattle.cpu.specs.Instruction.{executeOf, stepOf};
 use crate::address;
 use crate::address::Fetched;
@@ -8,7 +9,6 @@ use crate::alu;
 use crate::branch;
 use crate::core;
 use crate::core::Core;
-use crate::decode;
 use crate::decode::Instruction;
 use crate::operand;
 use crate::port;
@@ -20,11 +20,12 @@ use crate::status;
 
 fn execute(i: Instruction, m: Core, window: &[u8], source: &[u8], o: Offer, r: u8) -> Next
     requires { ⌜ r < 4 ⌝ }
-    ensures { λ s. ⌜ steppedOf s ≡ executeOf i (cpuOf m) (now (window .entry)) (offeredOf o (now (source .entry))) r ⌝ }
+    ensures { λ s. ⌜ steppedOf s ≡ executeOf i (cpuOf m) (lengthOf i) (now (window .entry)) (offeredOf o (now (source .entry))) r ⌝ }
 {
     match i {
         Instruction::Unknown => result::stopped(m, 5),
         Instruction::UnusedPort => result::stopped(m, 7),
+        Instruction::ExtendedPort => result::stopped(m, 7),
         Instruction::Operate(mode, usage) => operand::with_operand(mode, usage, m, window, r),
         Instruction::Strz => {
             let v = core::register(m, 0);
@@ -111,6 +112,6 @@ pub(crate) fn one(m: Core, window: &[u8], source: &[u8], o: Offer) -> Next
     let Fetched::Byte(op) = address::fetch(window, here) else {
         return result::stopped(m, 6);
     };
-    let i = decode::decode(op);
+    let i = Instruction::decode(op);
     execute(i, m, window, source, o, op % 4)
 }

@@ -1,5 +1,6 @@
 // The Signetics 2650, and one such machine over its own bytes: window, input buffer, output buffer.
-// It knows no memory, no table and no neighbour. A caller needs `step`, `run` and the structs that they take.
+// It knows no memory, no table and no neighbour. A caller needs `step`, `run` and the structs that they take;
+// one that reads code without running it needs `Instruction`, and the enums that stand in it.
 mod address;
 mod alu;
 mod branch;
@@ -14,8 +15,12 @@ mod result;
 mod state;
 mod status;
 
-pub use address::Address;
-pub use machine::Sizes;
+pub use decode::Instruction;
+pub use decode::Kind;
+pub use decode::Mode;
+pub use decode::Operation;
+pub use decode::Reach;
+pub use decode::Use;
 pub use machine::State;
 pub use machine::run;
 pub use machine::step;

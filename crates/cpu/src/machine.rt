@@ -1,9 +1,11 @@
 ghost use mathlib.Core.Path.{_≡_};
-ghost use Rattle.cpu.specs.Machine.{beyond, machineOf, machineStep, times};
+ghost use Rattle.cpu.specs.Machine.{restingState, beyond, machineOf, machineStep};
+ghost use Rattle.common.specs.Repetition.{times};
 use crate::core;
 use crate::partition;
 use crate::partition::Positions;
 use crate::state::Cpu;
+use common::Layout;
 
 // What is kept of a machine beside its bytes: document 01's status and the positions in its two buffers.
 pub struct State {
@@ -14,23 +16,34 @@ pub struct State {
     pub written: u16,
 }
 
-// How a partition is parted: the window first, then the input buffer, then the output buffer.
-pub struct Sizes {
-    pub window: u16,
-    pub input: u16,
-    pub output: u16,
+impl State {
+    // The last of document 01's statuses.
+    pub const LAST_STATUS: u8 = 7;
+
+    // Status 0, and nothing in the buffers.
+    pub fn at_rest(cpu: Cpu) -> State
+        ensures { λ s. ⌜ s ≡ restingState cpu ⌝ }
+    {
+        State {
+            cpu,
+            status: 0,
+            filled: 0,
+            read: 0,
+            written: 0,
+        }
+    }
 }
 
 // At most so many steps, until the status is not 1. The slice holds the partition's bytes and nothing else: one that is
-// shorter than the sizes cuts the parts that it ends in, and of one that is longer the rest is untouched.
-pub fn run(state: State, partition: &mut [u8], sizes: Sizes, steps: u64) -> State
-    ensures { λ s. ⌜ machineOf sizes s (now (partition .exit)) ≡ times steps machineStep (machineOf sizes state (now (partition .entry))) ⌝ }
-    ensures { λ s. ⌜ beyond sizes (now (partition .exit)) ≡ beyond sizes (now (partition .entry)) ⌝ }
+// shorter than the layout cuts the parts that it ends in, and of one that is longer the rest is untouched.
+pub fn run(state: State, partition: &mut [u8], layout: Layout, steps: u64) -> State
+    ensures { λ s. ⌜ machineOf layout s (now (partition .exit)) ≡ times steps machineStep (machineOf layout state (now (partition .entry))) ⌝ }
+    ensures { λ s. ⌜ beyond layout (now (partition .exit)) ≡ beyond layout (now (partition .entry)) ⌝ }
 {
     let b = partition::parted(
-        sizes.window,
-        sizes.input,
-        sizes.output,
+        layout.window,
+        layout.input,
+        layout.output,
         state.filled,
         partition.len(),
     );
@@ -45,29 +58,27 @@ pub fn run(state: State, partition: &mut [u8], sizes: Sizes, steps: u64) -> Stat
         if status != 1 {
             break;
         }
-        let next = partition::advance(core, &partition[..], b, k);
-        let c = next.core;
+        let stepped = partition::advance(core, &partition[..], b, k);
+        let c = stepped.core;
         core = c;
-        status = next.status;
-        let effect = next.effect;
+        status = stepped.status;
+        let effect = stepped.effect;
         let n = partition::settle(partition, effect, b, k);
         k = n;
         i += 1;
     }
-    let cpu = core::unpack(core);
-    State {
-        cpu,
-        status,
-        filled: state.filled,
-        read: k.read as u16,
-        written: k.written as u16,
-    }
+    let mut next = state;
+    next.cpu = core::unpack(core);
+    next.status = status;
+    next.read = k.read as u16;
+    next.written = k.written as u16;
+    next
 }
 
 // One step.
-pub fn step(state: State, partition: &mut [u8], sizes: Sizes) -> State
-    ensures { λ s. ⌜ machineOf sizes s (now (partition .exit)) ≡ machineStep (machineOf sizes state (now (partition .entry))) ⌝ }
-    ensures { λ s. ⌜ beyond sizes (now (partition .exit)) ≡ beyond sizes (now (partition .entry)) ⌝ }
+pub fn step(state: State, partition: &mut [u8], layout: Layout) -> State
+    ensures { λ s. ⌜ machineOf layout s (now (partition .exit)) ≡ machineStep (machineOf layout state (now (partition .entry))) ⌝ }
+    ensures { λ s. ⌜ beyond layout (now (partition .exit)) ≡ beyond layout (now (partition .entry)) ⌝ }
 {
-    run(state, partition, sizes, 1)
+    run(state, partition, layout, 1)
 }

@@ -1,9 +1,9 @@
 ghost use mathlib.Core.Path.{_≡_};
 ghost use Prim.Native.Nat.{_<_};
 ghost use Rattle.cpu.specs.Core.{cpuOf, steppedOf, suppliedOf};
+ghost use Rattle.cpu.specs.Decode.{modeLength};
 ghost use Rattle.cpu.specs.Operand.{indexOf, indexedAddressOf, dataAddressOf, dataRegisterOf, steppedIndexOf, registerOperandOf, immediateOperandOf, relativeOperandOf, absoluteOperandOf, operandOf, withOperandOf};
 use crate::address;
-use crate::address::Address;
 use crate::address::Fetched;
 use crate::address::Located;
 use crate::core;
@@ -13,6 +13,7 @@ use crate::decode::Use;
 use crate::result;
 use crate::result::Next;
 use crate::result::Pending;
+use common::Address;
 
 // An operand: its byte, its address, the control bits (not 0 where R0 is the data), and the state after the
 // instruction's own bytes. The control bits stand for the register, whose range they keep.
@@ -29,7 +30,7 @@ fn index(control: u8, v: u8) -> u8
     } else if control == 1 {
         std::num::wrapping_add_u8(v, 1)
     } else if control == 2 {
-        std::num::wrapping_add_u8(v, 255)
+        std::num::wrapping_sub_u8(v, 1)
     } else {
         v
     }
@@ -77,7 +78,7 @@ fn stepped_index(m: Core, r: u8, control: u8, i: u8) -> Core
 
 fn register_operand(m: Core, r: u8) -> Supply
     requires { ⌜ r < 4 ⌝ }
-    ensures { λ o. ⌜ suppliedOf r o ≡ registerOperandOf (cpuOf m) r ⌝ }
+    ensures { λ o. ⌜ suppliedOf r o ≡ registerOperandOf (cpuOf m) 1 r ⌝ }
 {
     let b = core::register(m, r);
     let n = result::advanced(m, 1);
@@ -85,7 +86,7 @@ fn register_operand(m: Core, r: u8) -> Supply
 }
 
 fn immediate_operand(m: Core, window: &[u8], r: u8) -> Supply
-    ensures { λ o. ⌜ suppliedOf r o ≡ immediateOperandOf (cpuOf m) (now (window .entry)) r ⌝ }
+    ensures { λ o. ⌜ suppliedOf r o ≡ immediateOperandOf (cpuOf m) 2 (now (window .entry)) r ⌝ }
 {
     let at = result::after(m, 1);
     let Fetched::Byte(b) = address::fetch(window, at) else {
@@ -96,7 +97,7 @@ fn immediate_operand(m: Core, window: &[u8], r: u8) -> Supply
 }
 
 fn relative_operand(m: Core, window: &[u8], r: u8) -> Supply
-    ensures { λ o. ⌜ suppliedOf r o ≡ relativeOperandOf (cpuOf m) (now (window .entry)) r ⌝ }
+    ensures { λ o. ⌜ suppliedOf r o ≡ relativeOperandOf (cpuOf m) 2 (now (window .entry)) r ⌝ }
 {
     let at = result::after(m, 1);
     let Fetched::Byte(second) = address::fetch(window, at) else {
@@ -116,7 +117,7 @@ fn relative_operand(m: Core, window: &[u8], r: u8) -> Supply
 
 fn absolute_operand(m: Core, window: &[u8], r: u8) -> Supply
     requires { ⌜ r < 4 ⌝ }
-    ensures { λ o. ⌜ suppliedOf r o ≡ absoluteOperandOf (cpuOf m) (now (window .entry)) r ⌝ }
+    ensures { λ o. ⌜ suppliedOf r o ≡ absoluteOperandOf (cpuOf m) 3 (now (window .entry)) r ⌝ }
 {
     let first = result::after(m, 1);
     let Fetched::Byte(high) = address::fetch(window, first) else {
@@ -143,7 +144,7 @@ fn absolute_operand(m: Core, window: &[u8], r: u8) -> Supply
 
 fn find(mode: Mode, m: Core, window: &[u8], r: u8) -> Supply
     requires { ⌜ r < 4 ⌝ }
-    ensures { λ o. ⌜ suppliedOf r o ≡ operandOf mode (cpuOf m) (now (window .entry)) r ⌝ }
+    ensures { λ o. ⌜ suppliedOf r o ≡ operandOf mode (cpuOf m) (modeLength mode) (now (window .entry)) r ⌝ }
 {
     match mode {
         Mode::Register => register_operand(m, r),
@@ -156,7 +157,7 @@ fn find(mode: Mode, m: Core, window: &[u8], r: u8) -> Supply
 // A store looks its operand up like the others: the same addresses are outside.
 pub(crate) fn with_operand(mode: Mode, usage: Use, m: Core, window: &[u8], r: u8) -> Next
     requires { ⌜ r < 4 ⌝ }
-    ensures { λ s. ⌜ steppedOf s ≡ withOperandOf mode usage (cpuOf m) (now (window .entry)) r ⌝ }
+    ensures { λ s. ⌜ steppedOf s ≡ withOperandOf mode usage (cpuOf m) (modeLength mode) (now (window .entry)) r ⌝ }
 {
     let Supply::Ready(b, a, control, n) = find(mode, m, window, r) else {
         return result::stopped(m, 6);

@@ -19,7 +19,7 @@ fn byte_or_zero(source: &[u8], at: usize) -> u8
 
 pub(crate) fn read(m: Core, source: &[u8], o: Offer, r: u8) -> Next
     requires { ⌜ r < 4 ⌝ }
-    ensures { λ s. ⌜ steppedOf s ≡ readOf (cpuOf m) (offeredOf o (now (source .entry))) r ⌝ }
+    ensures { λ s. ⌜ steppedOf s ≡ readOf (cpuOf m) 1 (offeredOf o (now (source .entry))) r ⌝ }
 {
     if o.unread {
         let b = byte_or_zero(source, o.at);
@@ -35,7 +35,7 @@ pub(crate) fn read(m: Core, source: &[u8], o: Offer, r: u8) -> Next
 
 pub(crate) fn write(m: Core, source: &[u8], o: Offer, r: u8) -> Next
     requires { ⌜ r < 4 ⌝ }
-    ensures { λ s. ⌜ steppedOf s ≡ writeOf (cpuOf m) (offeredOf o (now (source .entry))) r ⌝ }
+    ensures { λ s. ⌜ steppedOf s ≡ writeOf (cpuOf m) 1 (offeredOf o (now (source .entry))) r ⌝ }
 {
     if o.full {
         result::stopped(m, 4)

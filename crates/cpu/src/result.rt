@@ -4,12 +4,12 @@ ghost use Rattle.cpu.specs.Core.{cpuOf, pendingOf, steppedOf};
 ghost use Rattle.cpu.specs.Result.{endedOf, goingOf, stoppedOf, afterOf, advancedOf, appliedOf, changedOf, operatedOf};
 ghost use Rattle.cpu.specs.State.{bitRS, pslOf};
 use crate::address;
-use crate::address::Address;
 use crate::alu;
 use crate::alu::Outcome;
 use crate::core;
 use crate::core::Core;
 use crate::decode::Operation;
+use common::Address;
 
 // What a step does beside the state, in whole words: an address and a byte, or a byte.
 pub enum Pending {
@@ -88,10 +88,11 @@ pub(crate) fn applied(m: Core, r: u8, o: Outcome) -> Core
     core::with_result(n, o.psl)
 }
 
+// A one-byte instruction.
 pub(crate) fn changed(m: Core, r: u8, o: Outcome) -> Next
     requires { ⌜ r < 4 ⌝ }
     requires { ⌜ bitRS (o .psl) ≡ bitRS (pslOf (cpuOf m)) ⌝ }
-    ensures { λ n. ⌜ steppedOf n ≡ changedOf (cpuOf m) r o ⌝ }
+    ensures { λ n. ⌜ steppedOf n ≡ changedOf (cpuOf m) 1 r o ⌝ }
 {
     let n = applied(m, r, o);
     let t = advanced(n, 1);

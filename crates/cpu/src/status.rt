@@ -26,7 +26,7 @@ pub(crate) fn stored(v: u8) -> u8
 }
 
 pub(crate) fn clear_psu(m: Core, window: &[u8]) -> Next
-    ensures { λ s. ⌜ steppedOf s ≡ maskedOf (cpuOf m) (now (window .entry)) (λ mask. withPsu (cpuOf m) (storedPsu (bitAnd (psuOf (cpuOf m)) (255 - mask)))) ⌝ }
+    ensures { λ s. ⌜ steppedOf s ≡ maskedOf (cpuOf m) 2 (now (window .entry)) (λ mask. withPsu (cpuOf m) (storedPsu (bitAnd (psuOf (cpuOf m)) (255 - mask)))) ⌝ }
 {
     let at = result::after(m, 1);
     let Fetched::Byte(mask) = address::fetch(window, at) else {
@@ -40,7 +40,7 @@ pub(crate) fn clear_psu(m: Core, window: &[u8]) -> Next
 }
 
 pub(crate) fn clear_psl(m: Core, window: &[u8]) -> Next
-    ensures { λ s. ⌜ steppedOf s ≡ maskedOf (cpuOf m) (now (window .entry)) (λ mask. withPsl (cpuOf m) (bitAnd (pslOf (cpuOf m)) (255 - mask))) ⌝ }
+    ensures { λ s. ⌜ steppedOf s ≡ maskedOf (cpuOf m) 2 (now (window .entry)) (λ mask. withPsl (cpuOf m) (bitAnd (pslOf (cpuOf m)) (255 - mask))) ⌝ }
 {
     let at = result::after(m, 1);
     let Fetched::Byte(mask) = address::fetch(window, at) else {
@@ -53,7 +53,7 @@ pub(crate) fn clear_psl(m: Core, window: &[u8]) -> Next
 }
 
 pub(crate) fn preset_psu(m: Core, window: &[u8]) -> Next
-    ensures { λ s. ⌜ steppedOf s ≡ maskedOf (cpuOf m) (now (window .entry)) (λ mask. withPsu (cpuOf m) (storedPsu (bitOr (psuOf (cpuOf m)) mask))) ⌝ }
+    ensures { λ s. ⌜ steppedOf s ≡ maskedOf (cpuOf m) 2 (now (window .entry)) (λ mask. withPsu (cpuOf m) (storedPsu (bitOr (psuOf (cpuOf m)) mask))) ⌝ }
 {
     let at = result::after(m, 1);
     let Fetched::Byte(mask) = address::fetch(window, at) else {
@@ -67,7 +67,7 @@ pub(crate) fn preset_psu(m: Core, window: &[u8]) -> Next
 }
 
 pub(crate) fn preset_psl(m: Core, window: &[u8]) -> Next
-    ensures { λ s. ⌜ steppedOf s ≡ maskedOf (cpuOf m) (now (window .entry)) (λ mask. withPsl (cpuOf m) (bitOr (pslOf (cpuOf m)) mask)) ⌝ }
+    ensures { λ s. ⌜ steppedOf s ≡ maskedOf (cpuOf m) 2 (now (window .entry)) (λ mask. withPsl (cpuOf m) (bitOr (pslOf (cpuOf m)) mask)) ⌝ }
 {
     let at = result::after(m, 1);
     let Fetched::Byte(mask) = address::fetch(window, at) else {
@@ -80,7 +80,7 @@ pub(crate) fn preset_psl(m: Core, window: &[u8]) -> Next
 }
 
 pub(crate) fn tested(m: Core, window: &[u8], v: u8) -> Next
-    ensures { λ s. ⌜ steppedOf s ≡ testedOf (cpuOf m) (now (window .entry)) v ⌝ }
+    ensures { λ s. ⌜ steppedOf s ≡ testedOf (cpuOf m) 2 (now (window .entry)) v ⌝ }
 {
     let at = result::after(m, 1);
     let Fetched::Byte(mask) = address::fetch(window, at) else {

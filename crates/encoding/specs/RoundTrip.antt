@@ -1,72 +1,85 @@
 -- Laws that the checker has shown: every state has its 34 bytes, every 34 bytes are a state, and each way leads back.
 use mathlib.Core.Path.{_≡_, refl, sym, ap, _∙_}
 use mathlib.Core.List.{List, [], _∷_}
-use Prim.Native.Nat.{ℕ, zero, suc, _+_, _*_, _/_, _%_, _<_}
-use native.Mathlib.Nat.{div-add-mod'}
+use Prim.Native.Nat.{ℕ}
 use native.Mathlib.Omega.{arith}
 use lib.ListN.{getD, length}
+use lib.Seq.{take-all}
+use Rattle.cpu.specs.Invariants.{CpuShaped}
+use Rattle.cpu.specs.Machine.{withCpu}
 use Rattle.cpu.specs.declared.machine.State.{State}
-use Rattle.cpu.specs.declared.state.Cpu.{Cpu}
-use Rattle.encoding.specs.Encoding.{bytesOf, cpuAt, numberAt, pairOf, pairsOf, registersAt, returnsAt, stateOf}
+use Rattle.slices.specs.NumberLaws.{pair-back, pair-again, pairs-again}
+use Rattle.slices.specs.PieceLaws.{all-listed, part-listed, parts-joined}
+use Rattle.slices.specs.Slices.{Bytes, joined, listed}
+use Rattle.encoding.specs.Encoding.{stateLength, stateBytes, stateAt, cpuAt, registersAt, returnsAt}
 
--- a list by its elements: with a length that is a number the list is written out
-abbrev pub table : ℕ → (ℕ → ℕ) → List ℕ
-table zero f = []
-table (suc n) f = f 0 ∷ table n (λ i. f (suc i))
+-- a state has seven registers and eight return addresses: in the code by their types
+abbrev pub Shaped : State → Type 0
+Shaped s = CpuShaped (s .cpu)
 
-pub table-all : (n : ℕ) (l : List ℕ) → length l ≡ n → l ≡ table n (λ i. getD l i 0)
-table-all zero [] h = refl
-table-all zero (x ∷ xs) h = absurd (omega arith)
-table-all (suc n) [] h = absurd (omega arith)
-table-all (suc n) (x ∷ xs) h = ap (λ (l : List ℕ). x ∷ l) (table-all n xs (omega arith))
-
-abbrev pub cpuBy : Cpu → List ℕ → List ℕ → Cpu
-cpuBy c registers returns = record { counter = c .counter; registers = registers; psu = c .psu; psl = c .psl; returns = returns }
-
-abbrev pub stateBy : State → List ℕ → List ℕ → State
-stateBy s registers returns =
-    record { cpu = cpuBy (s .cpu) registers returns; status = s .status; filled = s .filled; read = s .read; written = s .written }
+-- what bytes hold has these lengths
+pub state-shaped : (l : List ℕ) → Shaped (stateAt l)
+unfolding stateAt cpuAt registersAt returnsAt
+state-shaped l = record { registers = refl; returns = refl }
 
 -- a state with its registers and return addresses written out
-abbrev pub spelled : State → State
-spelled s = stateBy s (table 7 (λ i. getD (s .cpu .registers) i 0)) (table 8 (λ i. getD (s .cpu .returns) i 0))
+abbrev stateBy : State → List ℕ → List ℕ → State
+stateBy s registers returns =
+    withCpu (record { counter = s .cpu .counter; registers = registers; psu = s .cpu .psu; psl = s .cpu .psl; returns = returns }) s
 
-pub spelled-same : (s : State) → length (s .cpu .registers) ≡ 7 → length (s .cpu .returns) ≡ 8 → s ≡ spelled s
-spelled-same s r q =
-    ap (λ (l : List ℕ). stateBy s l (s .cpu .returns)) (table-all 7 (s .cpu .registers) r)
-    ∙ ap (λ (l : List ℕ). stateBy s (table 7 (λ i. getD (s .cpu .registers) i 0)) l) (table-all 8 (s .cpu .returns) q)
+abbrev spelled : State → State
+spelled s = stateBy s (listed 7 (λ i. getD (s .cpu .registers) i 0)) (listed 8 (λ i. getD (s .cpu .returns) i 0))
 
-pub spelled-back : (s : State) → stateOf (bytesOf (spelled s)) ≡ spelled s
-unfolding bytesOf stateOf cpuAt registersAt returnsAt numberAt pairOf pairsOf
-spelled-back s = simp div-add-mod'
+spelled-same : (s : State) → Shaped s → s ≡ spelled s
+spelled-same s h =
+    λ j. stateBy s (all-listed 7 (s .cpu .registers) (h .registers) j) (all-listed 8 (s .cpu .returns) (h .returns) j)
+
+spelled-length : (s : State) → length (stateBytes (spelled s)) ≡ stateLength
+unfolding stateBytes
+spelled-length s = refl
+
+pub state-length : (s : State) → Shaped s → length (stateBytes s) ≡ stateLength
+state-length s h = ap (λ (z : State). length (stateBytes z)) (spelled-same s h) ∙ spelled-length s
+
+spelled-back : (s : State) → stateAt (stateBytes (spelled s)) ≡ spelled s
+unfolding stateBytes stateAt cpuAt registersAt returnsAt
+spelled-back s =
+    λ j.
+    record {
+      cpu =
+          record {
+            counter = pair-back (s .cpu .counter) [] j;
+            registers = listed 7 (λ i. getD (s .cpu .registers) i 0);
+            psu = s .cpu .psu;
+            psl = s .cpu .psl;
+            returns = listed 8 (λ i. pair-back (getD (s .cpu .returns) i 0) [] j);
+          };
+      status = s .status;
+      filled = pair-back (s .filled) [] j;
+      read = pair-back (s .read) [] j;
+      written = pair-back (s .written) [] j;
+    }
 
 -- a state's bytes hold that state
-pub decoded : (s : State) → length (s .cpu .registers) ≡ 7 → length (s .cpu .returns) ≡ 8 → stateOf (bytesOf s) ≡ s
-decoded s r q = ap (λ (t : State). stateOf (bytesOf t)) (spelled-same s r q) ∙ spelled-back s ∙ sym (spelled-same s r q)
+pub decoded : (s : State) → Shaped s → stateAt (stateBytes s) ≡ s
+decoded s h = ap (λ (t : State). stateAt (stateBytes t)) (spelled-same s h) ∙ spelled-back s ∙ sym (spelled-same s h)
 
-pub pair-law : (a b : ℕ) → b < 256 → pairOf (a * 256 + b) ≡ a ∷ b ∷ []
-unfolding pairOf
-pair-law a b h =
-    let d : (a * 256 + b) / 256 ≡ a = omega arith in
-    let m : (a * 256 + b) % 256 ≡ b = omega arith in
-    rw (d, m)
-
--- 34 bytes are those of the state that they hold
-pub encoded : (l : List ℕ) → length l ≡ 34 → ((i : ℕ) → getD l i 0 < 256) → bytesOf (stateOf l) ≡ l
-unfolding bytesOf stateOf cpuAt registersAt returnsAt numberAt pairsOf
+-- so many bytes are those of the state that they hold
+pub encoded : (l : List ℕ) → length l ≡ stateLength → Bytes l → stateBytes (stateAt l) ≡ l
+unfolding stateBytes stateAt cpuAt registersAt returnsAt
 encoded l h small =
-    rw (
-      pair-law _ _ (small 1),
-      pair-law _ _ (small 12),
-      pair-law _ _ (small 14),
-      pair-law _ _ (small 16),
-      pair-law _ _ (small 18),
-      pair-law _ _ (small 20),
-      pair-law _ _ (small 22),
-      pair-law _ _ (small 24),
-      pair-law _ _ (small 26),
-      pair-law _ _ (small 29),
-      pair-law _ _ (small 31),
-      pair-law _ _ (small 33),
-    )
-    (sym (table-all 34 l h))
+    (λ j.
+    joined (
+    pair-again l small 0 (omega arith) j
+    ∷ part-listed 7 l 2 (omega arith) j
+    ∷ part-listed 1 l 9 (omega arith) j
+    ∷ part-listed 1 l 10 (omega arith) j
+    ∷ pairs-again l small 8 11 (omega arith) j
+    ∷ part-listed 1 l 27 (omega arith) j
+    ∷ pair-again l small 28 (omega arith) j
+    ∷ pair-again l small 30 (omega arith) j
+    ∷ pair-again l small 32 (omega arith) j
+    ∷ []
+    ))
+    ∙ parts-joined l 0 (2 ∷ 7 ∷ 1 ∷ 1 ∷ 16 ∷ 1 ∷ 2 ∷ 2 ∷ 2 ∷ [])
+    ∙ take-all stateLength l (omega arith)

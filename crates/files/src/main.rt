@@ -1,5 +1,7 @@
 // Reads every file of data/files.bin, and compares the refusal, or the values and both bodies, with what make_data.py worked out;
 // each accepted file is also written again and compared. make_data.py gives the layout of an entry.
+use common::Address;
+use common::Layout;
 use libc::STDOUT_FILENO;
 use pattern::Answer;
 use pattern::Values;
@@ -8,9 +10,9 @@ use slices::byte;
 use slices::copy;
 use slices::fill;
 use slices::front;
+use slices::pair;
 use slices::part;
 use slices::rest;
-use slices::word;
 use std::num::wrapping_add_u64;
 
 // A refusal, 0 for none; the values; the lengths of the bodies of `PC` and `PI`.
@@ -30,17 +32,20 @@ struct Tally {
 
 // What an entry expects.
 fn expected(entry: &[u8]) -> Reading {
+    let layout = Layout {
+        window: pair(entry, 8),
+        input: pair(entry, 10),
+        output: pair(entry, 12),
+    };
     Reading {
-        refusal: word(entry, 6),
+        refusal: pair(entry, 6),
         values: Values {
-            window: word(entry, 8),
-            input: word(entry, 10),
-            output: word(entry, 12),
-            start: word(entry, 14),
+            layout,
+            start: Address(pair(entry, 14)),
             quantum: byte(entry, 17),
         },
-        code: word(entry, 20) as usize,
-        input: word(entry, 24) as usize,
+        code: pair(entry, 20) as usize,
+        input: pair(entry, 24) as usize,
     }
 }
 
@@ -57,13 +62,7 @@ fn answered(file: &[u8]) -> Reading {
         },
         Answer::Refused(number) => Reading {
             refusal: number as u16,
-            values: Values {
-                window: 0,
-                input: 0,
-                output: 0,
-                start: 0,
-                quantum: 0,
-            },
+            values: pattern::values_at(b""),
             code,
             input,
         },
@@ -71,10 +70,14 @@ fn answered(file: &[u8]) -> Reading {
 }
 
 fn same_values(a: Values, b: Values) -> bool {
-    (a.window == b.window)
-        & (a.input == b.input)
-        & (a.output == b.output)
-        & (a.start == b.start)
+    let p = a.layout;
+    let q = b.layout;
+    let start = a.start;
+    let other = b.start;
+    (p.window == q.window)
+        & (p.input == q.input)
+        & (p.output == q.output)
+        & (start.0 == other.0)
         & (a.quantum == b.quantum)
 }
 
@@ -82,11 +85,11 @@ fn same_values(a: Values, b: Values) -> bool {
 fn same_bodies(file: &[u8], entry: &[u8]) -> bool {
     check::same(
         pattern::code_body(file),
-        part(file, word(entry, 18) as usize, word(entry, 20) as usize),
+        part(file, pair(entry, 18) as usize, pair(entry, 20) as usize),
     )
         & check::same(
             pattern::input_body(file),
-            part(file, word(entry, 22) as usize, word(entry, 24) as usize),
+            part(file, pair(entry, 22) as usize, pair(entry, 24) as usize),
         )
 }
 
@@ -94,10 +97,11 @@ fn same_bodies(file: &[u8], entry: &[u8]) -> bool {
 fn same_again(file: &[u8], values: Values) -> bool {
     let mut window = [0u8; 32768];
     copy(&mut window, 0, pattern::code_body(file));
+    let layout = values.layout;
     let mut again = [0u8; 36895];
     match pattern::write(
         values,
-        front(&window, values.window as usize),
+        front(&window, layout.window as usize),
         pattern::input_body(file),
         &mut again,
     ) {
@@ -131,7 +135,7 @@ fn unpack(packed: &[u8], file: &mut [u8]) {
         if 65536 < put {
             return;
         }
-        let head = word(packed, at);
+        let head = pair(packed, at);
         put_piece(head, rest(packed, at + 2), file, put);
         at = at + 2 + packed_length(head) as usize;
         put = put + (head % 32768) as usize;
@@ -144,16 +148,18 @@ fn print(text: &[u8]) {
 
 fn print_reading(r: Reading) {
     let v = r.values;
+    let layout = v.layout;
+    let start = v.start;
     print(b" refusal ");
     io::print_decimal(STDOUT_FILENO, r.refusal as u64);
     print(b" values ");
-    io::print_decimal(STDOUT_FILENO, v.window as u64);
+    io::print_decimal(STDOUT_FILENO, layout.window as u64);
     print(b" ");
-    io::print_decimal(STDOUT_FILENO, v.input as u64);
+    io::print_decimal(STDOUT_FILENO, layout.input as u64);
     print(b" ");
-    io::print_decimal(STDOUT_FILENO, v.output as u64);
+    io::print_decimal(STDOUT_FILENO, layout.output as u64);
     print(b" ");
-    io::print_decimal(STDOUT_FILENO, v.start as u64);
+    io::print_decimal(STDOUT_FILENO, start.0 as u64);
     print(b" ");
     io::print_decimal(STDOUT_FILENO, v.quantum as u64);
     print(b" bodies ");
@@ -170,12 +176,12 @@ fn compare(entry: &[u8], tally: Tally) -> Tally {
     unpack(
         part(
             behind_header,
-            word(entry, 0) as usize,
-            word(entry, 2) as usize,
+            pair(entry, 0) as usize,
+            pair(entry, 2) as usize,
         ),
         &mut space,
     );
-    let file = front(&space, word(entry, 4) as usize);
+    let file = front(&space, pair(entry, 4) as usize);
     let want = expected(entry);
     let got = answered(file);
     let values = got.values;
@@ -185,7 +191,7 @@ fn compare(entry: &[u8], tally: Tally) -> Tally {
         & ((got.refusal != 0) | same_again(file, values));
     if !same {
         print(b"differs: ");
-        print(front(behind_header, word(entry, 0) as usize));
+        print(front(behind_header, pair(entry, 0) as usize));
         print(b"\nwanted");
         print_reading(want);
         print(b"read");
@@ -212,7 +218,7 @@ fn compare_all(entries: &[u8]) -> Tally {
             return tally;
         }
         tally = compare(rest(entries, at), tally);
-        at = at + 26 + word(entries, at) as usize + word(entries, at + 2) as usize;
+        at = at + 26 + pair(entries, at) as usize + pair(entries, at + 2) as usize;
     }
     tally
 }

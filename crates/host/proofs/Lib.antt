@@ -1,4 +1,3 @@
 -- Laws that only proofs need.
-pub mod Tables
 pub mod Settling
 pub mod PatternFiling

@@ -1,18 +1,19 @@
 -- Definitions that must be believed: what a host's calls answer, and what they leave in the buffers that the host lends. A table is its
--- 364 bytes (TableEncoding); what a call does to it is crate supervisor's `refusal` and `afterCall`.
+-- bytes (TableEncoding); what a call does to it is crate supervisor's `refusal` and `afterCall`.
 use mathlib.Core.Bool.{not}
 use mathlib.Core.List.{List, [], _∷_, _++_}
 use Prim.Native.Nat.{ℕ, _+_, _*_}
 use lib.Dec.{eqb, ltb}
 use lib.ListN.{length, drop}
-use Rattle.cpu.specs.Choice.{if_then_else_}
-use Rattle.pattern.specs.Refusals.{_gives_}
-use Rattle.supervisor.specs.Events.{Call, load, unload, feed, drain, run, report, refusal, afterCall}
-use Rattle.supervisor.specs.Operations.{System, system, refusalBy, newRefusal, newOf, drainedCount, drainedBuffer, reportRefusal, reportOf}
+use Rattle.common.specs.Choice.{if_then_else_}
+use Rattle.common.specs.Refusals.{_gives_, refusalBy}
+use Rattle.supervisor.specs.Calls.{Call, report, refusal, afterCall, drainedBuffer, queryRefusal, reportOf}
+use Rattle.supervisor.specs.Operations.{System, system, newRefusal, newOf}
 use Rattle.supervisor.specs.declared.reported.Report.{Report}
 use Rattle.supervisor.specs.declared.table.Table.{Table}
-use Rattle.encoding.specs.Encoding.{pairOf}
-use Rattle.host.specs.TableEncoding.{tableAt, tableBytes}
+use Rattle.slices.specs.Numbers.{pairOf}
+use Rattle.slices.specs.Slices.{joined}
+use Rattle.host.specs.TableEncoding.{tableAt, tableBytes, tableLength}
 
 -- an answer: the refusal, 0 for none, and how many bytes were handed over, 0 where none are
 abbrev pub answerOf : ℕ → ℕ → ℕ
@@ -39,57 +40,65 @@ answered answer buffer = record { answer = answer; buffer = buffer }
 -- a refusal leaves the buffer: a host is given no all-zero table
 unfoldable pub hostNew : ℕ → List ℕ → Answered
 hostNew size table =
-    if eqb (length table) 364
+    if eqb (length table) tableLength
     then answered (answerOf (newRefusal size) 0) (bytesAfter (newRefusal size) (newOf size) table)
     else answered (answerOf 1 0) table
 
 -- ---- calls with a table and a memory
 
--- what a call answers, and what table and memory hold afterwards
-pub record Hosted : Type 0 where
-  pub answer : ℕ
+-- what a host holds between its calls: the table's bytes and the memory
+pub record Host : Type 0 where
   pub table : List ℕ
   pub memory : List ℕ
 
-abbrev pub hosted : ℕ → List ℕ → List ℕ → Hosted
-hosted answer table memory = record { answer = answer; table = table; memory = memory }
+abbrev pub host : List ℕ → List ℕ → Host
+host table memory = record { table = table; memory = memory }
 
--- only a drain hands bytes over
-unfoldable pub countOf : Call → System → ℕ
-countOf (load k location file) x = 0
-countOf (unload k) x = 0
-countOf (feed k bytes) x = 0
-countOf (drain k room) x = drainedCount x k room
-countOf (run count) x = 0
-countOf (report k) x = 0
+-- the table and the memory that these are
+abbrev pub systemOf : Host → System
+systemOf h = lent (h .table) (h .memory)
 
 -- a buffer of another length is no sound table: 1, and everything is left
-unfoldable pub hostOutcome : Call → List ℕ → List ℕ → Hosted
-hostOutcome c table memory =
-    if eqb (length table) 364
-    then
-    hosted
-    (answerOf (refusal c (lent table memory)) (countOf c (lent table memory)))
-    (bytesAfter (refusal c (lent table memory)) (afterCall c (lent table memory) .table) table)
-    (afterCall c (lent table memory) .memory)
-    else hosted (answerOf 1 0) table memory
+unfoldable pub hostLeft : Call → Host → Host
+hostLeft c h =
+    if eqb (length (h .table)) tableLength
+    then host (bytesAfter (refusal c (systemOf h)) (afterCall c (systemOf h) .table) (h .table)) (afterCall c (systemOf h) .memory)
+    else h
+
+-- what a call answers that hands over so many bytes, and what table and memory hold afterwards
+pub record Hosted : Type 0 where
+  pub answer : ℕ
+  pub left : Host
+
+abbrev pub hosted : ℕ → List ℕ → List ℕ → Hosted
+hosted answer table memory = record { answer = answer; left = host table memory }
+
+unfoldable pub hostOutcome : Call → ℕ → Host → Hosted
+hostOutcome c count h =
+    record {
+      answer = if eqb (length (h .table)) tableLength then answerOf (refusal c (systemOf h)) count else answerOf 1 0;
+      left = hostLeft c h;
+    }
 
 -- the lent buffer after a drain
 unfoldable pub hostDrained : List ℕ → List ℕ → ℕ → List ℕ → List ℕ
-hostDrained table memory k buffer = if eqb (length table) 364 then drainedBuffer (lent table memory) k buffer else buffer
+hostDrained table memory k buffer = if eqb (length table) tableLength then drainedBuffer (lent table memory) k buffer else buffer
 
 -- ---- a report
 
--- status, counter, seven registers, PSU with Sense, PSL: 12 bytes
+-- status, counter, seven registers, PSU with Sense, PSL
 unfoldable pub reportBytes : Report → List ℕ
-reportBytes r = r .status ∷ (pairOf (r .counter) ++ (r .registers ++ (r .psu ∷ r .psl ∷ [])))
+reportBytes r = joined ((r .status ∷ []) ∷ pairOf (r .counter) ∷ r .registers ∷ (r .psu ∷ r .psl ∷ []) ∷ [])
+
+abbrev pub reportLength : ℕ
+reportLength = 12
 
 unfoldable pub hostReportRefusal : List ℕ → ℕ → ℕ → ℕ
 hostReportRefusal table k room =
     refusalBy
-    (not (eqb (length table) 364) gives 1
-    ∷ not (eqb (reportRefusal (tableAt table) k) 0) gives reportRefusal (tableAt table) k
-    ∷ ltb room 12 gives 16
+    (not (eqb (length table) tableLength) gives 1
+    ∷ not (eqb (queryRefusal (report k) (tableAt table)) 0) gives queryRefusal (report k) (tableAt table)
+    ∷ ltb room reportLength gives 16
     ∷ [])
 
 -- the report at the buffer's front, the rest left
@@ -97,4 +106,4 @@ unfoldable pub hostReport : List ℕ → ℕ → List ℕ → Answered
 hostReport table k buffer =
     answered
     (answerOf (hostReportRefusal table k (length buffer)) 0)
-    (if eqb (hostReportRefusal table k (length buffer)) 0 then reportBytes (reportOf (tableAt table) k) ++ drop 12 buffer else buffer)
+    (if eqb (hostReportRefusal table k (length buffer)) 0 then reportBytes (reportOf (tableAt table) k) ++ drop reportLength buffer else buffer)

@@ -7,5 +7,4 @@ pub mod HostEvents
 -- Laws that the checker has shown.
 pub mod TableRoundTrip
 pub mod PatternFileLaws
-pub mod LengthLaws
 pub mod HostTheorem

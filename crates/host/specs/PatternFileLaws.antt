@@ -1,27 +1,24 @@
--- Laws that the checker has shown: the stretch that a host is answered is the body itself, whatever the file; and values cross the border
--- and back unchanged.
+-- Laws that the checker has shown: the stretch that a host is answered is the body itself, whatever the file.
 use mathlib.Core.List.{List, []}
 use mathlib.Core.Path.{_≡_, refl, sym, ap, _∙_}
 use Prim.Native.Nat.{ℕ, _+_, _*_, _/_, _%_, _≤_, _<_}
 use native.Mathlib.Omega.{arith}
-use lib.ListN.{length, take, drop}
-use lib.Seq.{drop-drop}
-use Rattle.pattern.specs.Frame.{bodyLength, bodyOf, afterRecord}
-use Rattle.pattern.specs.FrameLaws.{word-bytes}
+use lib.ListN.{length}
+use Rattle.pattern.specs.Frame.{bodyOf}
 use Rattle.pattern.specs.Image.{trim}
 use Rattle.pattern.specs.ImageLaws.{trim-short}
-use Rattle.pattern.specs.Reader.{readOf, ifAccepted, codeOf, inputOf, fromPartition, fromCode, fromInput}
-use Rattle.pattern.specs.ReaderLaws.{FileIs, file-is, code-body-is, code-length, input-body-is, input-length, code-fits, input-fits, read-ranges}
+use Rattle.pattern.specs.Reader.{readOf, ifAccepted, codeOf, inputOf, codePlace, inputPlace, fromCode, fromInput}
+use Rattle.pattern.specs.ReaderLaws.{code-fits, input-fits, read-ranges, code-at, input-at, code-place-is, input-place-is}
+use Rattle.pattern.specs.Values.{formOf}
 use Rattle.pattern.specs.ValuesLaws.{ranges}
-use Rattle.pattern.specs.Writer.{partitionBody, fileOf, writeOf}
+use Rattle.pattern.specs.Writer.{smallestSize, fileOf, writeOf}
 use Rattle.pattern.specs.WriterLaws.{accepted-written, file-length}
 use Rattle.pattern.specs.declared.reader.Answer.{Answer}
 use Rattle.pattern.specs.declared.reader.Answer.the-variants.{Accepted, Refused}
 use Rattle.pattern.specs.declared.values.Values.{Values}
 use Rattle.pattern.specs.declared.writer.Written.the-variants.{Length}
 use Rattle.slices.specs.Slices.{partOf}
-use Rattle.encoding.specs.Encoding.{numberAt}
-use Rattle.host.specs.PatternFiles.{stretchOf, ifRead, codePlace, inputPlace, codeStretch, inputStretch, valuesAt}
+use Rattle.host.specs.PatternFiles.{stretchOf, ifRead, codeStretch, inputStretch}
 
 -- the stretch of a file that a number names
 abbrev pub stretchIn : List ℕ → ℕ → List ℕ
@@ -34,51 +31,18 @@ stretch-parts file offset n h =
     rw (d, m)
 
 module _ (file : List ℕ) (v : Values) (accepted : readOf file ≡ Accepted v) where
-  is : FileIs file v
-  is = file-is file v accepted
-
-  -- the bodies' lengths have two bytes
+  -- the bodies' lengths and places have two bytes
   pub code-few : length (codeOf file) ≤ 32768
   code-few = omega (arith, code-fits file v accepted, read-ranges file v accepted)
 
   pub input-few : length (inputOf file) ≤ 4096
   input-few = omega (arith, input-fits file v accepted, read-ranges file v accepted)
 
-  -- from the record `PC` on
-  code-from : fromCode file ≡ drop 19 file
-  unfolding afterRecord
-  code-from =
-      let a : bodyLength file ≡ 2 = is .version .size in
-      let b : bodyLength (fromPartition file) ≡ 9 = is .partition .size in
-      ap (λ (n : ℕ). drop (n + 4) (fromPartition file)) b
-      ∙ ap (λ (n : ℕ). drop 13 (drop (n + 4) file)) a
-      ∙ drop-drop 13 6 file
+  pub code-place-few : codePlace file < 65536
+  code-place-few = omega (arith, code-place-is file v accepted)
 
-  input-from : fromInput file ≡ drop (19 + (length (codeOf file) + 4)) file
-  unfolding afterRecord
-  input-from =
-      ap (λ (n : ℕ). drop (n + 4) (fromCode file)) (sym (code-length file v accepted))
-      ∙ ap (drop (length (codeOf file) + 4)) code-from
-      ∙ drop-drop (length (codeOf file) + 4) 19 file
-
-  code-at : partOf file (codePlace file) (length (codeOf file)) ≡ codeOf file
-  unfolding bodyOf
-  code-at =
-      sym
-      (code-body-is file v accepted
-      ∙ ap (λ (n : ℕ). partOf (fromCode file) 4 n) (sym (code-length file v accepted))
-      ∙ ap (λ (l : List ℕ). partOf l 4 (length (codeOf file))) code-from
-      ∙ ap (take (length (codeOf file))) (drop-drop 4 19 file))
-
-  input-at : partOf file (inputPlace file) (length (inputOf file)) ≡ inputOf file
-  unfolding bodyOf
-  input-at =
-      let n : 19 + (length (codeOf file) + 4) + 4 ≡ inputPlace file = omega arith in
-      sym
-      (input-body-is file v accepted
-      ∙ ap (λ (n : ℕ). partOf (fromInput file) 4 n) (sym (input-length file v accepted))
-      ∙ ap (λ (l : List ℕ). partOf l 4 (length (inputOf file))) input-from
-      ∙ ap (take (length (inputOf file))) (drop-drop 4 (19 + (length (codeOf file) + 4)) file ∙ ap (λ (i : ℕ). drop i file) n))
+  pub input-place-few : inputPlace file < 65536
+  input-place-few = omega (arith, input-place-is file v accepted, code-place-is file v accepted, code-few)
 
   -- what an accepted file's stretches are
   pub code-accepted : codeStretch file ≡ stretchOf (codePlace file) (length (codeOf file))
@@ -128,15 +92,10 @@ input-stretch file = go (readOf file) refl
         ∙ stretch-parts file (inputPlace file) (length (inputOf file)) (omega (arith, input-few file v e))
         ∙ input-at file v e
 
--- values as bytes, and back
-pub values-decoded : (v : Values) → v .window < 65536 → v .input < 65536 → v .output < 65536 → v .start < 65536 → valuesAt (partitionBody v) ≡ v
-unfolding valuesAt numberAt
-values-decoded v a b c d = rw (word-bytes (v .window) a, word-bytes (v .input) b, word-bytes (v .output) c, word-bytes (v .start) d)
-
 -- a written file's length has two bytes
 pub written-few : (v : Values) (image input : List ℕ) (room n : ℕ) → writeOf v image input room ≡ Length n → n < 65536
 written-few v image input room n h =
     let w = accepted-written v image input room n h in
     let r = ranges v (w .0 .range) in
-    let size : length (fileOf v image input) ≡ 31 + length (trim image) + length input = file-length v (trim image) input in
-    omega (arith, size, trim-short image, w .1, w .0 .whole, w .0 .few, r .window .fits, r .input .fits)
+    let size : length (fileOf v image input) ≡ smallestSize (formOf v) + length (trim image) + length input = file-length v (trim image) input in
+    omega (arith, size, trim-short image, w .1, w .0 .whole, w .0 .few, r .layout .window .fits, r .layout .input .fits)

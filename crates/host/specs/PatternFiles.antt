@@ -3,28 +3,26 @@
 use mathlib.Core.List.{List, _++_}
 use Prim.Native.Nat.{ℕ, _+_, _*_}
 use lib.Dec.{eqb, ltb}
-use lib.ListN.{length, getD, drop}
-use Rattle.cpu.specs.Choice.{if_then_else_}
-use Rattle.pattern.specs.Reader.{readOf, formIn, codeOf, inputOf}
-use Rattle.pattern.specs.Values.{partitionSize}
-use Rattle.pattern.specs.Writer.{partitionBody, writeOf, bufferOf}
+use lib.ListN.{length, drop}
+use Rattle.common.specs.Choice.{if_then_else_}
+use Rattle.pattern.specs.Reader.{readOf, codeOf, inputOf, codePlace, inputPlace}
+use Rattle.pattern.specs.Values.{formOf, partitionSize, valuesBytes, valuesAt}
+use Rattle.pattern.specs.Writer.{writeOf, bufferOf}
 use Rattle.pattern.specs.declared.reader.Answer.{Answer}
 use Rattle.pattern.specs.declared.reader.Answer.the-variants.{Accepted, Refused}
-use Rattle.pattern.specs.declared.values.Values.{Values}
 use Rattle.pattern.specs.declared.writer.Written.{Written}
 use Rattle.pattern.specs.declared.writer.Written.the-variants.{Length, Failed}
 use Rattle.host.specs.Calls.{answerOf, Answered, answered}
-use Rattle.encoding.specs.Encoding.{numberAt}
 
 -- ---- reading
 
--- the reader's number; then 16 for a buffer of fewer than 9 bytes; else the values at the buffer's front, as the body of `PB`, the rest left
+-- the reader's number; then 16 for a buffer that is shorter than the body of `PB`; else that body at the buffer's front, the rest left
 unfoldable pub hostRead : Answer → List ℕ → Answered
 hostRead (Refused n) buffer = answered (answerOf n 0) buffer
 hostRead (Accepted v) buffer =
-    if ltb (length buffer) 9
+    if ltb (length buffer) (partitionSize (formOf v))
     then answered (answerOf 16 0) buffer
-    else answered (answerOf 0 0) (partitionBody v ++ drop 9 buffer)
+    else answered (answerOf 0 0) (valuesBytes v ++ drop (partitionSize (formOf v)) buffer)
 
 -- a stretch of a file in one number: where it starts, and its length
 abbrev pub stretchOf : ℕ → ℕ → ℕ
@@ -35,13 +33,7 @@ abbrev pub ifRead : Answer → ℕ → ℕ
 ifRead (Accepted v) stretch = stretch
 ifRead (Refused n) stretch = 0
 
--- where the bodies of `PC` and `PI` start: `PV` has 6 bytes, and each record 4 in front of its body
-abbrev pub codePlace : List ℕ → ℕ
-codePlace file = 14 + partitionSize (formIn file)
-
-abbrev pub inputPlace : List ℕ → ℕ
-inputPlace file = codePlace file + length (codeOf file) + 4
-
+-- where the bodies of `PC` and `PI` lie
 unfoldable pub codeStretch : List ℕ → ℕ
 codeStretch file = ifRead (readOf file) (stretchOf (codePlace file) (length (codeOf file)))
 
@@ -50,25 +42,14 @@ inputStretch file = ifRead (readOf file) (stretchOf (inputPlace file) (length (i
 
 -- ---- writing
 
--- the values that the body of `PB` holds
-unfoldable pub valuesAt : List ℕ → Values
-valuesAt bytes =
-    record {
-      window = numberAt bytes 0;
-      input = numberAt bytes 2;
-      output = numberAt bytes 4;
-      start = numberAt bytes 6;
-      quantum = getD bytes 8 0;
-    }
-
 -- the count is the file's length
 abbrev pub writtenAnswer : Written → ℕ
 writtenAnswer (Length n) = answerOf 0 n
 writtenAnswer (Failed n) = answerOf n 0
 
--- values of another length than 9 bytes are out of range
+-- the values come as the body of `PB`; one of another length is out of range
 unfoldable pub hostWrite : List ℕ → List ℕ → List ℕ → List ℕ → Answered
 hostWrite values image input buffer =
-    if eqb (length values) 9
+    if eqb (length values) (partitionSize (formOf (valuesAt values)))
     then answered (writtenAnswer (writeOf (valuesAt values) image input (length buffer))) (bufferOf (valuesAt values) image input buffer)
     else answered (answerOf 9 0) buffer

@@ -1,18 +1,20 @@
-// Calls on a table that a host lends as 364 bytes: each decodes the table, makes the call by value, and encodes only what was accepted.
+// Calls on a table that a host lends as its bytes: each decodes the table, makes the call by value, and encodes only what was accepted.
 ghost use mathlib.Core.Path.{_≡_};
+ghost use Prim.Native.Nat.{min};
 ghost use lib.ListN.{length};
-ghost use Rattle.supervisor.specs.Events as events;
-ghost use Rattle.host.specs.Calls.{answerOf, answered, bytesAfter, hosted, hostDrained, hostNew, hostOutcome, hostReport, reportBytes};
+ghost use Rattle.supervisor.specs.Calls as calls;
+ghost use Rattle.supervisor.specs.Calls.{drainedCount};
+ghost use Rattle.host.specs.TableEncoding.{tableLength};
+ghost use Rattle.host.specs.Calls.{answerOf, answered, bytesAfter, host, hosted, hostDrained, hostNew, hostOutcome, hostReport, lent, reportBytes};
+use crate::table_encoding::TABLE_LENGTH;
 use crate::table_encoding::decode_table;
 use crate::table_encoding::encode_table;
+use common::Location;
 use supervisor::Report;
 use supervisor::Table;
 
-// The length of a table's bytes.
-const TABLE: usize = 364;
-
-// The length of a report's bytes.
-const REPORT: usize = 12;
+// How many bytes a report has.
+const REPORT_LENGTH: usize = 12;
 
 // A refusal, 0 for none, and a count, in one number.
 pub(crate) fn answer(refusal: u8, count: u16) -> u32
@@ -23,7 +25,7 @@ pub(crate) fn answer(refusal: u8, count: u16) -> u32
 
 // Writes the table's bytes anew where the call was accepted.
 fn store(bytes: &mut [u8], refusal: u8, table: Table)
-    requires { ⌜ length (now bytes) ≡ 364 ⌝ }
+    requires { ⌜ length (now bytes) ≡ tableLength ⌝ }
     ensures { λ _. ⌜ now (bytes .exit) ≡ bytesAfter refusal table (now (bytes .entry)) ⌝ }
 {
     if refusal == 0 {
@@ -36,7 +38,7 @@ fn store(bytes: &mut [u8], refusal: u8, table: Table)
 pub extern "C" fn pf_new(table: &mut [u8], length: usize) -> u32
     ensures { λ r. ⌜ answered r (now (table .exit)) ≡ hostNew length (now (table .entry)) ⌝ }
 {
-    if table.len() != TABLE {
+    if table.len() != TABLE_LENGTH {
         return answer(1, 0);
     }
     let done = Table::new(length);
@@ -44,6 +46,17 @@ pub extern "C" fn pf_new(table: &mut [u8], length: usize) -> u32
     let fresh = done.table;
     store(table, refusal, fresh);
     answer(refusal, 0)
+}
+
+// The place of that number. Every place from the longest memory's length on is refused alike, so one stands for all of them.
+fn place(location: usize) -> Location
+    ensures { λ l. ⌜ l .0 ≡ min location 65536 ⌝ }
+{
+    if location < Table::LONGEST {
+        Location(location as u32)
+    } else {
+        Location(Table::LONGEST as u32)
+    }
 }
 
 #[no_mangle]
@@ -54,13 +67,13 @@ pub extern "C" fn pf_load(
     location: usize,
     file: &[u8],
 ) -> u32
-    ensures { λ r. ⌜ hosted r (now (table .exit)) (now (memory .exit)) ≡ hostOutcome (events.load slot location (now (file .entry))) (now (table .entry)) (now (memory .entry)) ⌝ }
+    ensures { λ r. ⌜ hosted r (now (table .exit)) (now (memory .exit)) ≡ hostOutcome (calls.change slot (calls.load (record { 0 = location }) (now (file .entry)))) 0 (host (now (table .entry)) (now (memory .entry))) ⌝ }
 {
-    if table.len() != TABLE {
+    if table.len() != TABLE_LENGTH {
         return answer(1, 0);
     }
     let before = decode_table(&table[..]);
-    let done = supervisor::load(before, memory, slot, location, file);
+    let done = supervisor::load(before, memory, slot, place(location), file);
     let refusal = done.refusal;
     let after = done.table;
     store(table, refusal, after);
@@ -69,9 +82,9 @@ pub extern "C" fn pf_load(
 
 #[no_mangle]
 pub extern "C" fn pf_unload(table: &mut [u8], memory: &mut [u8], slot: usize) -> u32
-    ensures { λ r. ⌜ hosted r (now (table .exit)) (now (memory .exit)) ≡ hostOutcome (events.unload slot) (now (table .entry)) (now (memory .entry)) ⌝ }
+    ensures { λ r. ⌜ hosted r (now (table .exit)) (now (memory .exit)) ≡ hostOutcome (calls.change slot calls.unload) 0 (host (now (table .entry)) (now (memory .entry))) ⌝ }
 {
-    if table.len() != TABLE {
+    if table.len() != TABLE_LENGTH {
         return answer(1, 0);
     }
     let before = decode_table(&table[..]);
@@ -84,9 +97,9 @@ pub extern "C" fn pf_unload(table: &mut [u8], memory: &mut [u8], slot: usize) ->
 
 #[no_mangle]
 pub extern "C" fn pf_feed(table: &mut [u8], memory: &mut [u8], slot: usize, input: &[u8]) -> u32
-    ensures { λ r. ⌜ hosted r (now (table .exit)) (now (memory .exit)) ≡ hostOutcome (events.feed slot (now (input .entry))) (now (table .entry)) (now (memory .entry)) ⌝ }
+    ensures { λ r. ⌜ hosted r (now (table .exit)) (now (memory .exit)) ≡ hostOutcome (calls.change slot (calls.feed (now (input .entry)))) 0 (host (now (table .entry)) (now (memory .entry))) ⌝ }
 {
-    if table.len() != TABLE {
+    if table.len() != TABLE_LENGTH {
         return answer(1, 0);
     }
     let before = decode_table(&table[..]);
@@ -100,10 +113,10 @@ pub extern "C" fn pf_feed(table: &mut [u8], memory: &mut [u8], slot: usize, inpu
 // The count is how many bytes were drained to the buffer's front.
 #[no_mangle]
 pub extern "C" fn pf_drain(table: &mut [u8], memory: &[u8], slot: usize, buffer: &mut [u8]) -> u32
-    ensures { λ r. ⌜ hosted r (now (table .exit)) (now (memory .entry)) ≡ hostOutcome (events.drain slot (length (now (buffer .entry)))) (now (table .entry)) (now (memory .entry)) ⌝ }
+    ensures { λ r. ⌜ hosted r (now (table .exit)) (now (memory .entry)) ≡ hostOutcome (calls.change slot (calls.drain (length (now (buffer .entry))))) (drainedCount (lent (now (table .entry)) (now (memory .entry))) slot (length (now (buffer .entry)))) (host (now (table .entry)) (now (memory .entry))) ⌝ }
     ensures { λ _. ⌜ now (buffer .exit) ≡ hostDrained (now (table .entry)) (now (memory .entry)) slot (now (buffer .entry)) ⌝ }
 {
-    if table.len() != TABLE {
+    if table.len() != TABLE_LENGTH {
         return answer(1, 0);
     }
     let before = decode_table(&table[..]);
@@ -116,9 +129,9 @@ pub extern "C" fn pf_drain(table: &mut [u8], memory: &[u8], slot: usize, buffer:
 
 #[no_mangle]
 pub extern "C" fn pf_run(table: &mut [u8], memory: &mut [u8], rounds: u16) -> u32
-    ensures { λ r. ⌜ hosted r (now (table .exit)) (now (memory .exit)) ≡ hostOutcome (events.run rounds) (now (table .entry)) (now (memory .entry)) ⌝ }
+    ensures { λ r. ⌜ hosted r (now (table .exit)) (now (memory .exit)) ≡ hostOutcome (calls.run rounds) 0 (host (now (table .entry)) (now (memory .entry))) ⌝ }
 {
-    if table.len() != TABLE {
+    if table.len() != TABLE_LENGTH {
         return answer(1, 0);
     }
     let before = decode_table(&table[..]);
@@ -129,7 +142,7 @@ pub extern "C" fn pf_run(table: &mut [u8], memory: &mut [u8], rounds: u16) -> u3
     answer(refusal, 0)
 }
 
-fn report_bytes(r: Report) -> [u8; 12]
+fn report_bytes(r: Report) -> [u8; REPORT_LENGTH]
     ensures { λ l. ⌜ l ≡ reportBytes r ⌝ }
 {
     let registers = r.registers;
@@ -154,7 +167,7 @@ fn report_bytes(r: Report) -> [u8; 12]
 pub extern "C" fn pf_report(table: &[u8], slot: usize, report: &mut [u8]) -> u32
     ensures { λ r. ⌜ answered r (now (report .exit)) ≡ hostReport (now (table .entry)) slot (now (report .entry)) ⌝ }
 {
-    if table.len() != TABLE {
+    if table.len() != TABLE_LENGTH {
         return answer(1, 0);
     }
     let made = supervisor::report(decode_table(table), slot);
@@ -162,7 +175,7 @@ pub extern "C" fn pf_report(table: &[u8], slot: usize, report: &mut [u8]) -> u32
     if refusal != 0 {
         return answer(refusal, 0);
     }
-    if report.len() < REPORT {
+    if report.len() < REPORT_LENGTH {
         return answer(16, 0);
     }
     let bytes = report_bytes(made);

@@ -1,52 +1,10 @@
 // Calls on pattern files that a host lends.
 ghost use mathlib.Core.Path.{_≡_};
 ghost use Rattle.pattern.specs.Reader.{readOf};
-ghost use Rattle.pattern.specs.Writer.{partitionBody};
 ghost use Rattle.host.specs.Calls.{answered};
-ghost use Rattle.host.specs.PatternFiles.{codeStretch, hostRead, hostWrite, inputStretch, stretchOf, valuesAt};
+ghost use Rattle.host.specs.PatternFiles.{codeStretch, hostRead, hostWrite, inputStretch, stretchOf};
 use crate::calls::answer;
-use encoding::number;
 use pattern::Values;
-use slices::byte;
-
-// The length of the body of `PB`.
-const VALUES: usize = 9;
-
-// Where the body of `PC` starts in a file.
-const CODE: u16 = 23;
-
-fn values_bytes(v: Values) -> [u8; 9]
-    ensures { λ l. ⌜ l ≡ partitionBody v ⌝ }
-{
-    [
-        (v.window / 256 % 256) as u8,
-        (v.window % 256) as u8,
-        (v.input / 256 % 256) as u8,
-        (v.input % 256) as u8,
-        (v.output / 256 % 256) as u8,
-        (v.output % 256) as u8,
-        (v.start / 256 % 256) as u8,
-        (v.start % 256) as u8,
-        v.quantum,
-    ]
-}
-
-fn decode_values(bytes: &[u8]) -> Values
-    ensures { λ v. ⌜ v ≡ valuesAt (now (bytes .entry)) ⌝ }
-{
-    let window = number(bytes, 0);
-    let input = number(bytes, 2);
-    let output = number(bytes, 4);
-    let start = number(bytes, 6);
-    let quantum = byte(bytes, 8);
-    Values {
-        window,
-        input,
-        output,
-        start,
-        quantum,
-    }
-}
 
 // The file's values to the buffer's front.
 #[no_mangle]
@@ -57,10 +15,10 @@ pub extern "C" fn pf_read(file: &[u8], values: &mut [u8]) -> u32
     let pattern::Answer::Accepted(v) = read else {
         return answer(pattern::refusal(read), 0);
     };
-    if values.len() < VALUES {
+    if values.len() < Values::SIZE {
         return answer(16, 0);
     }
-    let bytes = values_bytes(v);
+    let bytes = pattern::values_bytes(v);
     slices::copy(values, 0, &bytes);
     answer(0, 0)
 }
@@ -81,7 +39,7 @@ pub extern "C" fn pf_code(file: &[u8]) -> u32
         return 0;
     };
     let code = pattern::code_body(file);
-    stretch(CODE, code.len() as u16)
+    stretch(pattern::code_place(file) as u16, code.len() as u16)
 }
 
 // Where the body of `PI` lies in the file.
@@ -93,9 +51,8 @@ pub extern "C" fn pf_input(file: &[u8]) -> u32
     let pattern::Answer::Accepted(_) = read else {
         return 0;
     };
-    let code = pattern::code_body(file);
     let input = pattern::input_body(file);
-    stretch(CODE + code.len() as u16 + 4, input.len() as u16)
+    stretch(pattern::input_place(file) as u16, input.len() as u16)
 }
 
 // Writes a file to the buffer's front. The count is its length.
@@ -103,10 +60,10 @@ pub extern "C" fn pf_input(file: &[u8]) -> u32
 pub extern "C" fn pf_write(values: &[u8], image: &[u8], input: &[u8], buffer: &mut [u8]) -> u32
     ensures { λ r. ⌜ answered r (now (buffer .exit)) ≡ hostWrite (now (values .entry)) (now (image .entry)) (now (input .entry)) (now (buffer .entry)) ⌝ }
 {
-    if values.len() != VALUES {
+    if values.len() != Values::SIZE {
         return answer(9, 0);
     }
-    let written = pattern::write(decode_values(values), image, input, buffer);
+    let written = pattern::write(pattern::values_at(values), image, input, buffer);
     match written {
         pattern::Written::Length(n) => answer(0, n as u16),
         pattern::Written::Failed(number) => answer(number, 0),

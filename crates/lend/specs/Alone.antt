@@ -1,5 +1,5 @@
 -- Laws that the checker has shown: a slot that is the only one of a table.
-use mathlib.Core.Bool.{Bool, true, false, cond, _&&_}
+use mathlib.Core.Bool.{Bool, true, false, _&&_}
 use mathlib.Core.List.{List, _++_}
 use mathlib.Core.Logic.{_≢_}
 use mathlib.Core.Path.{_≡_, refl, ap}
@@ -8,51 +8,49 @@ use native.Mathlib.Omega.{arith}
 use borrow.Author.Tests.{eq-eqb, eqb-true, le-leb}
 use lib.Dec.{eqb, leb}
 use lib.ListN.{length, drop}
-use Rattle.pattern.specs.Refusals.{unless}
-use Rattle.pattern.specs.Values.{within}
-use Rattle.supervisor.specs.Events.{Outcome, drain, refusal, effect, afterCall, outcome, outcomeOf}
-use Rattle.supervisor.specs.Operations.{System, system, emptySlot, tableOf, newRefusal, newOf, refusalBy, drainRefusal, drainedState, afterDrain, writtenBytes, drainedCount, drainedBuffer}
-use Rattle.supervisor.specs.Table.{allBelow, endOf, slotAt, withSlot, zeroPartition, zeroState, allZero, slotSound, apart, clearOf, sound}
+use Rattle.common.specs.Choice.{if_then_else_}
+use Rattle.common.specs.Refusals.{unless, refusalBy}
+use Rattle.common.specs.TestLaws.{and-true, or-left, or-right}
+use Rattle.common.specs.Tests.{within, allAfter, allBelow}
+use Rattle.cpu.specs.State.{freshCpu}
+use Rattle.supervisor.specs.Calls.{Outcome, change, drain, changeConditions, refusal, patchOf, effect, afterCall, outcome, outcomeOf, drainedCount, drainedBuffer}
+use Rattle.supervisor.specs.Operations.{System, system, emptySlot, tableOf, newRefusal, newOf, tableConditions, memoryConditions, loadedConditions, drainConditions, drainedState, patched, drainPatch, writtenBytes}
+use Rattle.supervisor.specs.Table.{endOf, slotAt, withSlot, slotWith, zeroPartition, zeroState, allZero, slotSound, apart, clearOf, sound}
 use Rattle.supervisor.specs.declared.table.Partition.{Partition}
 use Rattle.supervisor.specs.declared.table.Slot.{Slot}
 use Rattle.supervisor.specs.declared.table.Table.{Table}
-use Rattle.supervisor.specs.Tests.{or-left, or-right}
-use Rattle.lend.specs.Lent.{lent, slotRefusal, writtenIn, drainSlotOf}
+use Rattle.lend.specs.Lent.{lent, slotRefusal, drainSlotOf}
 
 -- a table of seven empty slots behind this one
 abbrev pub alone : ℕ → Slot → Table
 alone size s = withSlot (tableOf size) 0 s
 
 empty-sound : (size : ℕ) → slotSound size emptySlot ≡ true
-unfolding slotSound zeroPartition zeroState allZero allBelow emptySlot
+unfolding slotSound zeroPartition zeroState allZero allAfter allBelow emptySlot freshCpu
 empty-sound size = refl
-
-and-true : (b : Bool) → (b && true) ≡ b
-and-true true = refl
-and-true false = refl
 
 -- an empty partition meets none, on either side
 apart-left : (p : Partition) → apart (emptySlot .partition) p ≡ true
 unfolding apart emptySlot
-apart-left p = or-left (leb 0 (p .base)) _ (le-leb 0 (p .base) (omega arith))
+apart-left p = or-left (leb 0 (p .base .0)) _ (le-leb 0 (p .base .0) (omega arith))
 
 apart-right : (p : Partition) → apart p (emptySlot .partition) ≡ true
 unfolding apart emptySlot
-apart-right p = or-right (leb (endOf p) 0) _ (le-leb 0 (p .base) (omega arith))
+apart-right p = or-right (leb (endOf p) 0) _ (le-leb 0 (p .base .0) (omega arith))
 
 -- it is sound exactly if its size is in range and the slot is sound by itself
 pub alone-sound : (size : ℕ) (s : Slot) → sound (alone size s) ≡ (within size 65536 && slotSound size s)
-unfolding sound withSlot slotAt allBelow clearOf
+unfolding sound withSlot slotAt allAfter allBelow clearOf
 alone-sound size s = simp (empty-sound size, apart-left, apart-right, and-true)
 
 -- so draining there is refused as draining the slot is
-pub alone-refusal : (s : Slot) (memory : List ℕ) (room : ℕ) → drainRefusal (system (alone (length memory) s) memory) 0 room ≡ slotRefusal s (length memory) room
-unfolding drainRefusal slotRefusal refusalBy unless withSlot slotAt
+pub alone-refusal : (s : Slot) (memory : List ℕ) (room : ℕ) → refusal (change 0 (drain room)) (system (alone (length memory) s) memory) ≡ slotRefusal s (length memory) room
+unfolding refusal changeConditions memoryConditions tableConditions loadedConditions drainConditions slotRefusal refusalBy unless if_then_else_ withSlot slotAt
 alone-refusal s memory room = rw (alone-sound (length memory) s, eq-eqb (length memory) _ refl)
 
 -- a memory whose length is out of range refuses the slot by 1
 pub not-new : (s : Slot) (memory buffer : List ℕ) → newRefusal (length memory) ≢ 0 → lent (record { refusal = 1; count = 0 }) s buffer ≡ drainSlotOf s memory buffer
-unfolding newRefusal refusalBy unless drainSlotOf slotRefusal
+unfolding newRefusal refusalBy unless if_then_else_ drainSlotOf slotRefusal
 not-new s memory buffer h = by-test (within (length memory) 65536) refl
   where
     by-test : (b : Bool) → within (length memory) 65536 ≡ b → lent (record { refusal = 1; count = 0 }) s buffer ≡ drainSlotOf s memory buffer
@@ -60,7 +58,7 @@ not-new s memory buffer h = by-test (within (length memory) 65536) refl
     by-test false e = rw e
 
 pub new-table : (n : ℕ) → newRefusal n ≡ 0 → newOf n ≡ tableOf n
-unfolding newOf
+unfolding newOf if_then_else_
 new-table n e = rw e
 
 -- what draining at slot 0 answers and leaves is what draining the slot does
@@ -69,21 +67,22 @@ module _ (s : Slot) (memory buffer : List ℕ) where
   here = system (alone (length memory) s) memory
 
   abbrev pub there : Outcome
-  there = outcomeOf (drain 0 (length buffer)) here
+  there = outcomeOf (change 0 (drain (length buffer))) here
 
   by-test :
       (t : ℕ) (b : Bool) → eqb t 0 ≡ b
       → lent
-      (record { refusal = t; count = cond b (s .state .written) 0 })
-      (slotAt (cond b (afterDrain here 0) here .table) 0)
-      (cond b (writtenBytes here 0 ++ drop (s .state .written) buffer) buffer)
-      ≡ cond b
-      (lent
+      (record { refusal = t; count = if b then s .state .written else 0 })
+      (slotAt ((if b then patched here 0 (drainPatch (slotAt (here .table) 0)) else here) .table) 0)
+      (if b then writtenBytes (slotAt (here .table) 0) (here .memory) ++ drop (s .state .written) buffer else buffer)
+      ≡ (if b
+      then
+      lent
       (record { refusal = 0; count = s .state .written })
-      (record { partition = s .partition; state = drainedState (s .state) })
-      (writtenIn s memory ++ drop (s .state .written) buffer))
-      (lent (record { refusal = t; count = 0 }) s buffer)
-  unfolding afterDrain writtenBytes writtenIn withSlot slotAt
+      (slotWith s (drainedState (s .state)))
+      (writtenBytes s memory ++ drop (s .state .written) buffer)
+      else lent (record { refusal = t; count = 0 }) s buffer)
+  unfolding patched drainPatch withSlot slotAt if_then_else_
   by-test t true e = rw (eqb-true t 0 e)
   by-test t false e = refl
 
@@ -93,14 +92,14 @@ module _ (s : Slot) (memory buffer : List ℕ) where
       (slotAt (there .after .table) 0)
       (drainedBuffer here 0 buffer)
       ≡ drainSlotOf s memory buffer
-  unfolding outcomeOf afterCall refusal effect drainedCount drainedBuffer drainSlotOf slotAt withSlot
+  unfolding outcomeOf afterCall effect patchOf drainedCount drainedBuffer drainSlotOf slotAt withSlot
   alone-drained = rw (alone-refusal s memory (length buffer)) (by-test (slotRefusal s (length memory) (length buffer)) _ refl)
 
 -- the same for whoever knows the answers of the call and the table it was made with
 pub by-draining :
     (s : Slot) (memory buffer : List ℕ) (t : Table) → t ≡ tableOf (length memory)
     → (r n : ℕ) (t' : Table) (b : List ℕ)
-    → outcome r t' memory ≡ outcomeOf (drain 0 (length buffer)) (system (withSlot t 0 s) memory)
+    → outcome r t' memory ≡ outcomeOf (change 0 (drain (length buffer))) (system (withSlot t 0 s) memory)
     → n ≡ drainedCount (system (withSlot t 0 s) memory) 0 (length buffer)
     → b ≡ drainedBuffer (system (withSlot t 0 s) memory) 0 buffer
     → lent (record { refusal = r; count = n }) (slotAt t' 0) b ≡ drainSlotOf s memory buffer

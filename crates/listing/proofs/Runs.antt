@@ -6,38 +6,39 @@ use Prim.Native.Nat.{ℕ, _+_, _*_, _≤_, _<_}
 use native.Mathlib.Omega.{arith}
 use borrow.Author.Tests.{lt-ltb, le-ltb, ne-eqb, eq-eqb}
 use lib.ListN.{length, take, drop}
-use Rattle.pattern.specs.Refusals.{unless}
-use Rattle.supervisor.specs.Events.{load, refusal, afterCall, Outcome, outcome, outcomeOf}
-use Rattle.supervisor.specs.Operations.{System, system, slotOf, newOf, refusalBy, writtenBytes, drainedCount, drainedBuffer, reportOf}
-use Rattle.supervisor.specs.Rounds.{Good}
+use Rattle.common.specs.Refusals.{unless, refusalBy}
+use Rattle.common.specs.Choice.{if_then_else_}
+use Rattle.supervisor.specs.Calls.{refusal, afterCall, Outcome, outcome, outcomeOf, drainedCount, drainedBuffer, reportOf}
+use Rattle.supervisor.specs.Operations.{System, system, slotOf, newOf, writtenBytes}
+use Rattle.supervisor.specs.Conditions.{Good, Ready, live-ready}
 use Rattle.supervisor.specs.Table.{isEmpty}
 use Rattle.supervisor.specs.declared.reported.Report.{Report}
 use Rattle.supervisor.specs.declared.table.Table.{Table}
 use Rattle.listing.specs.Text.{refusedLine, linesOf}
-use Rattle.listing.specs.Listing.{fresh, finished, fileRefusal, linesAfter, textOf, memoryAfter, listed, listingOf}
+use Rattle.listing.specs.Listing.{fresh, loading, finished, fileRefusal, linesAfter, textOf, memoryAfter, listed, listingOf}
 use Rattle.listing.specs.Rounds.{untilStopped}
-use Rattle.listing.specs.RunLaws.{Ready, finished-ready, status-low, written-few, written-length, drained-front}
+use Rattle.listing.specs.RunLaws.{slot-live, finished-ready, status-low, written-few, written-length, drained-front}
 
 -- ---- report and output
 
 module _ (x : System) (good : Good x) (loaded : isEmpty (slotOf x 0) ≡ false) where
-  ready : Ready x
-  ready = record { good = good; loaded = loaded }
+  ready : Ready x 0
+  ready = live-ready x 0 good (omega arith) loaded
 
   pub status-digit : (r : Report) → r ≡ reportOf (x .table) 0 → r .status < 10
   status-digit r e = rw e (status-low x ready)
 
   pub output-drained : (buffer after output : List ℕ) (count : ℕ) → length buffer ≡ 4096 → count ≡ drainedCount x 0 (length buffer)
-      → after ≡ drainedBuffer x 0 buffer → output ≡ take count after → output ≡ writtenBytes x 0
+      → after ≡ drainedBuffer x 0 buffer → output ≡ take count after → output ≡ writtenBytes (slotOf x 0) (x .memory)
   output-drained buffer after output count room e f h = h ∙ rw (e, f) (drained-front x ready buffer (omega arith))
 
-  pub output-fits : (output : List ℕ) → output ≡ writtenBytes x 0 → 38 + 3 * length output ≤ 12326
+  pub output-fits : (output : List ℕ) → output ≡ writtenBytes (slotOf x 0) (x .memory) → 38 + 3 * length output ≤ 12326
   output-fits output e =
       let n : length output ≡ slotOf x 0 .state .written = ap length e ∙ written-length x ready in
       let few = written-few x ready in
       omega arith
 
-  pub lines-after : (r : Report) (output t₀ t : List ℕ) (n : ℕ) → r ≡ reportOf (x .table) 0 → output ≡ writtenBytes x 0
+  pub lines-after : (r : Report) (output t₀ t : List ℕ) (n : ℕ) → r ≡ reportOf (x .table) 0 → output ≡ writtenBytes (slotOf x 0) (x .memory)
       → (n ≡ length (linesOf r output)) × (t ≡ linesOf r output ++ drop n t₀) → (n ≡ length (linesAfter x)) × (t ≡ linesAfter x ++ drop n t₀)
   unfolding linesAfter
   lines-after r output t₀ t n e f h = rw (← e, ← f) h
@@ -45,37 +46,37 @@ module _ (x : System) (good : Good x) (loaded : isEmpty (slotOf x 0) ≡ false) 
 -- ---- the whole
 
 pub refused-room : (file memory text : List ℕ) → length text < 12326 → listed 16 0 memory text ≡ listingOf file memory text
-unfolding listingOf unless
+unfolding listingOf unless if_then_else_
 refused-room file memory text h = rw (lt-ltb (length text) 12326 h)
 
 pub refused-memory : (file memory text : List ℕ) → 12326 ≤ length text → (length memory ≡ 40960 → ⊥) → listed 2 0 memory text ≡ listingOf file memory text
-unfolding listingOf unless
+unfolding listingOf unless if_then_else_
 refused-memory file memory text h some = rw (le-ltb (length text) 12326 h, ne-eqb (length memory) 40960 some)
 
 pub listed-text : (file memory text m t : List ℕ) (n : ℕ) → 12326 ≤ length text → length memory ≡ 40960
     → (n ≡ length (textOf file memory)) × ((m ≡ memoryAfter file memory) × (t ≡ textOf file memory ++ drop n text)) → listed 0 n m t ≡ listingOf file memory text
-unfolding listingOf unless
+unfolding listingOf unless if_then_else_
 listed-text file memory text m t n h g e = rw (le-ltb (length text) 12326 h, eq-eqb (length memory) 40960 g, e .1 .1, e .1 .0, e .0)
 
 -- ---- the file
 
 module _ (file memory : List ℕ) where
   long-file : 36895 < length file → fileRefusal file memory ≡ 6
-  unfolding fileRefusal refusalBy unless
+  unfolding fileRefusal refusalBy unless if_then_else_
   long-file h = rw (lt-ltb 36895 (length file) h)
 
-  short-refused : length file ≤ 36895 → (refusal (load 0 0 file) (fresh memory) ≡ 0 → ⊥) → fileRefusal file memory ≡ refusal (load 0 0 file) (fresh memory)
-  unfolding fileRefusal refusalBy unless
-  short-refused h some = rw (le-ltb 36895 (length file) h, ne-eqb (refusal (load 0 0 file) (fresh memory)) 0 some)
+  short-refused : length file ≤ 36895 → (refusal (loading file) (fresh memory) ≡ 0 → ⊥) → fileRefusal file memory ≡ refusal (loading file) (fresh memory)
+  unfolding fileRefusal refusalBy unless if_then_else_
+  short-refused h some = rw (le-ltb 36895 (length file) h, ne-eqb (refusal (loading file) (fresh memory)) 0 some)
 
-  short-accepted : length file ≤ 36895 → refusal (load 0 0 file) (fresh memory) ≡ 0 → fileRefusal file memory ≡ 0
-  unfolding fileRefusal refusalBy unless
+  short-accepted : length file ≤ 36895 → refusal (loading file) (fresh memory) ≡ 0 → fileRefusal file memory ≡ 0
+  unfolding fileRefusal refusalBy unless if_then_else_
   short-accepted h none = rw (le-ltb 36895 (length file) h, none)
 
   -- the answer and both lent slices where the file is refused, and where it is not
   refused-text : (k n : ℕ) (t₀ t : List ℕ) → fileRefusal file memory ≡ k → (k ≡ 0 → ⊥) → (n ≡ length (refusedLine k)) × (t ≡ refusedLine k ++ drop n t₀)
       → (n ≡ length (textOf file memory)) × ((memory ≡ memoryAfter file memory) × (t ≡ textOf file memory ++ drop n t₀))
-  unfolding textOf memoryAfter
+  unfolding textOf memoryAfter if_then_else_
   refused-text k n t₀ t e some h = rw (e, ne-eqb k 0 some) (h .0, (refl, h .1))
 
   pub long-text : (n : ℕ) (t₀ t : List ℕ) → 36895 < length file → (n ≡ length (refusedLine 6)) × (t ≡ refusedLine 6 ++ drop n t₀)
@@ -83,24 +84,24 @@ module _ (file memory : List ℕ) where
   long-text n t₀ t h e = refused-text 6 n t₀ t (long-file h) (λ z. omega arith) e
 
   module _ (short : length file ≤ 36895) (k : ℕ) (t₁ t₂ : Table) (m₂ : List ℕ) (new : t₁ ≡ newOf 40960)
-      (answer : outcome k t₂ m₂ ≡ outcomeOf (load 0 0 file) (system t₁ memory)) where
-    from-new : outcome k t₂ m₂ ≡ outcomeOf (load 0 0 file) (fresh memory)
-    from-new = answer ∙ ap (λ (t : Table). outcomeOf (load 0 0 file) (system t memory)) new
+      (answer : outcome k t₂ m₂ ≡ outcomeOf (loading file) (system t₁ memory)) where
+    from-new : outcome k t₂ m₂ ≡ outcomeOf (loading file) (fresh memory)
+    from-new = answer ∙ ap (λ (t : Table). outcomeOf (loading file) (system t memory)) new
 
-    load-number : k ≡ refusal (load 0 0 file) (fresh memory)
+    load-number : k ≡ refusal (loading file) (fresh memory)
     unfolding outcomeOf
     load-number = ap (λ (o : Outcome). o .number) from-new
 
-    load-after : system t₂ m₂ ≡ afterCall (load 0 0 file) (fresh memory)
+    load-after : system t₂ m₂ ≡ afterCall (loading file) (fresh memory)
     unfolding outcomeOf
     load-after = ap (λ (o : Outcome). o .after) from-new
 
     pub refused-load : (n : ℕ) (t₀ t : List ℕ) → (k ≡ 0 → ⊥) → (n ≡ length (refusedLine k)) × (t ≡ refusedLine k ++ drop n t₀)
         → (n ≡ length (textOf file memory)) × ((m₂ ≡ memoryAfter file memory) × (t ≡ textOf file memory ++ drop n t₀))
-    unfolding afterCall
+    unfolding afterCall if_then_else_
     refused-load n t₀ t some e =
-        let z : refusal (load 0 0 file) (fresh memory) ≡ 0 → ⊥ = λ h. some (load-number ∙ h) in
-        let kept : m₂ ≡ memory = ap (λ (x : System). x .memory) load-after ∙ rw (ne-eqb (refusal (load 0 0 file) (fresh memory)) 0 z) in
+        let z : refusal (loading file) (fresh memory) ≡ 0 → ⊥ = λ h. some (load-number ∙ h) in
+        let kept : m₂ ≡ memory = ap (λ (x : System). x .memory) load-after ∙ rw (ne-eqb (refusal (loading file) (fresh memory)) 0 z) in
         let whole = refused-text k n t₀ t (short-refused short z ∙ sym load-number) some e in
         (whole .0, (kept ∙ whole .1 .0, whole .1 .1))
 
@@ -109,17 +110,17 @@ module _ (file memory : List ℕ) where
       unfolding finished
       end-finished = ran ∙ ap (untilStopped 1000) load-after
 
-      end-ready : Ready (system t₃ m₃)
+      end-ready : Ready (system t₃ m₃) 0
       end-ready = rw end-finished (finished-ready file memory room (sym load-number ∙ none))
 
       pub end-good : Good (system t₃ m₃)
       end-good = end-ready .good
 
       pub end-loaded : isEmpty (slotOf (system t₃ m₃) 0) ≡ false
-      end-loaded = end-ready .loaded
+      end-loaded = slot-live (system t₃ m₃) end-ready
 
       pub finished-text : (n : ℕ) (t₀ t : List ℕ) → (n ≡ length (linesAfter (system t₃ m₃))) × (t ≡ linesAfter (system t₃ m₃) ++ drop n t₀)
           → (n ≡ length (textOf file memory)) × ((m₃ ≡ memoryAfter file memory) × (t ≡ textOf file memory ++ drop n t₀))
-      unfolding textOf memoryAfter
+      unfolding textOf memoryAfter if_then_else_
       finished-text n t₀ t e =
           rw (short-accepted short (sym load-number ∙ none), ← end-finished) (e .0, (refl, e .1))

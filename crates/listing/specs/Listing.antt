@@ -1,12 +1,13 @@
 -- Definitions that must be believed: the bench run, from a pattern file to its text (document 01, "The bench run").
-use mathlib.Core.Bool.{cond, not}
+use mathlib.Core.Bool.{not}
 use mathlib.Core.List.{List, [], _∷_, _++_}
 use Prim.Native.Nat.{ℕ, _+_, _*_}
 use lib.Dec.{eqb, ltb}
 use lib.ListN.{length, drop}
-use Rattle.pattern.specs.Refusals.{_gives_, unless}
-use Rattle.supervisor.specs.Events.{load, refusal, afterCall}
-use Rattle.supervisor.specs.Operations.{System, system, newOf, refusalBy, reportOf, writtenBytes}
+use Rattle.common.specs.Refusals.{_gives_, unless, refusalBy}
+use Rattle.common.specs.Choice.{if_then_else_}
+use Rattle.supervisor.specs.Calls.{Call, change, load, refusal, afterCall, reportOf}
+use Rattle.supervisor.specs.Operations.{System, system, slotOf, newOf, writtenBytes}
 use Rattle.listing.specs.Rounds.{untilStopped}
 use Rattle.listing.specs.Text.{refusedLine, linesOf}
 
@@ -15,27 +16,31 @@ abbrev pub fresh : List ℕ → System
 fresh memory = system (newOf 40960) memory
 
 -- the file is loaded at slot 0, location 0, and runs
+abbrev pub loading : List ℕ → Call
+loading file = change 0 (load (record { 0 = 0 }) file)
+
 unfoldable pub finished : List ℕ → List ℕ → System
-finished file memory = untilStopped 1000 (afterCall (load 0 0 file) (fresh memory))
+finished file memory = untilStopped 1000 (afterCall (loading file) (fresh memory))
 
 -- the number that refuses the file, 0 for none
 unfoldable pub fileRefusal : List ℕ → List ℕ → ℕ
 fileRefusal file memory =
     refusalBy
     (ltb 36895 (length file) gives 6
-    ∷ not (eqb (refusal (load 0 0 file) (fresh memory)) 0) gives refusal (load 0 0 file) (fresh memory)
+    ∷ not (eqb (refusal (loading file) (fresh memory)) 0) gives refusal (loading file) (fresh memory)
     ∷ [])
 
 -- the slot is reported on first, and then drained: draining takes status 4 away
 unfoldable pub linesAfter : System → List ℕ
-linesAfter x = linesOf (reportOf (x .table) 0) (writtenBytes x 0)
+linesAfter x = linesOf (reportOf (x .table) 0) (writtenBytes (slotOf x 0) (x .memory))
 
 unfoldable pub textOf : List ℕ → List ℕ → List ℕ
-textOf file memory = cond (eqb (fileRefusal file memory) 0) (linesAfter (finished file memory)) (refusedLine (fileRefusal file memory))
+textOf file memory =
+    if eqb (fileRefusal file memory) 0 then linesAfter (finished file memory) else refusedLine (fileRefusal file memory)
 
 -- the memory afterwards: as the rounds leave it, since a drain changes no byte of it; as it was where the file is refused
 unfoldable pub memoryAfter : List ℕ → List ℕ → List ℕ
-memoryAfter file memory = cond (eqb (fileRefusal file memory) 0) (finished file memory .memory) memory
+memoryAfter file memory = if eqb (fileRefusal file memory) 0 then finished file memory .memory else memory
 
 -- the length of the longest text, 12,326: the first line with its newline, `out`, 4,096 bytes of output as fields, a newline
 abbrev pub longest : ℕ

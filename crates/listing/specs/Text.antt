@@ -1,6 +1,6 @@
 -- Definitions that must be believed: the text of the bench run (document 01, "The bench run"). A character is its
 -- number in ASCII.
-use mathlib.Core.Bool.{cond}
+use Rattle.common.specs.Choice.{if_then_else_}
 use mathlib.Core.List.{List, [], _∷_, _++_}
 use Prim.Native.Char.{code}
 use Prim.Native.Nat.{ℕ, _+_, _-_, _/_, _%_}
@@ -10,7 +10,7 @@ use Rattle.listing.specs.Ascii.{ascii}
 
 -- a digit of a number below 16; hex letters are capitals
 unfoldable pub hexDigit : ℕ → ℕ
-hexDigit n = cond (ltb n 10) (code "0" + n) (code "A" + (n - 10))
+hexDigit n = if ltb n 10 then code "0" + n else code "A" + (n - 10)
 
 -- two digits
 unfoldable pub hexByte : ℕ → List ℕ
@@ -22,7 +22,7 @@ hexWord w = hexByte (w / 256) ++ hexByte (w % 256)
 
 -- a number below 100, which a status and a refusal are, in decimal
 unfoldable pub decimal : ℕ → List ℕ
-decimal n = cond (ltb n 10) ((code "0" + n) ∷ []) ((code "0" + n / 10) ∷ (code "0" + n % 10) ∷ [])
+decimal n = if ltb n 10 then (code "0" + n) ∷ [] else (code "0" + n / 10) ∷ (code "0" + n % 10) ∷ []
 
 -- a byte as a field behind another one: a space and two digits
 unfoldable pub field : ℕ → List ℕ

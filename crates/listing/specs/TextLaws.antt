@@ -8,6 +8,7 @@ use native.Mathlib.Decide.{decLt}
 use borrow.Author.Tests.{lt-ltb, le-ltb}
 use lib.ListN.{length, getD, take, length-append}
 use lib.Seq.{take-suc}
+use Rattle.common.specs.Choice.{if_then_else_}
 use Rattle.listing.specs.Text.{hexByte, decimal, field, fields}
 
 pub field-length : (b : ℕ) → length (field b) ≡ 3
@@ -35,11 +36,11 @@ fields-more l i h =
 
 -- a number below 10 is one digit, and the others are two
 pub one-digit : (n : ℕ) → n < 10 → decimal n ≡ (48 + n) ∷ []
-unfolding decimal
+unfolding decimal if_then_else_
 one-digit n h = rw (lt-ltb n 10 h)
 
 pub two-digits : (n : ℕ) → 10 ≤ n → decimal n ≡ (48 + n / 10) ∷ (48 + n % 10) ∷ []
-unfolding decimal
+unfolding decimal if_then_else_
 two-digits n h = rw (le-ltb n 10 h)
 
 pub decimal-short : (n : ℕ) → length (decimal n) ≤ 2

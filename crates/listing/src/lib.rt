@@ -5,6 +5,7 @@ mod text;
 use crate::rounds::rounds;
 use crate::text::put_lines;
 use crate::text::put_refused;
+use common::Location;
 use supervisor::Table;
 ghost use mathlib.Core.Bool.{false};
 ghost use mathlib.Core.List.{_++_};
@@ -12,7 +13,7 @@ ghost use mathlib.Core.Path.{_≡_};
 ghost use Prim.Native.Nat.{_≤_};
 ghost use lib.ListN.{length, drop};
 ghost use Rattle.supervisor.specs.Operations.{system, slotOf};
-ghost use Rattle.supervisor.specs.Rounds.{Good};
+ghost use Rattle.supervisor.specs.Conditions.{Good};
 ghost use Rattle.supervisor.specs.Table.{isEmpty};
 ghost use Rattle.listing.specs.Listing.{longest, listed, listingOf, linesAfter, textOf, memoryAfter};
 
@@ -60,7 +61,7 @@ fn put_text(file: &[u8], memory: &mut [u8], text: &mut [u8]) -> usize
     }
     let new = Table::new(Listed::MEMORY);
     let empty = new.table;
-    let answer = supervisor::load(empty, memory, 0, 0, file);
+    let answer = supervisor::load(empty, memory, 0, Location(0), file);
     if answer.refusal != 0 {
         return put_refused(answer.refusal, text);
     }

@@ -4,10 +4,10 @@ mod rounds;
 
 ghost use mathlib.Core.Path.{_≡_};
 ghost use Prim.Native.Nat.{_*_};
-ghost use Rattle.machine.specs.Run.{leftBy, machineRunOf, sizesOf};
-use cpu::Sizes;
+ghost use Rattle.machine.specs.Run.{layoutOf, leftBy, machineRunOf};
+use common::Layout;
 
-// Runs one machine: `rounds` times `quantum` steps over its partition. The state is the 34 bytes of crate encoding;
+// Runs one machine: `rounds` times `quantum` steps over its partition. The state is as crate encoding has it;
 // with another length nothing is touched and the answer is 1, else it is 0.
 #[no_mangle]
 pub extern "C" fn pf_machine_run(
@@ -19,18 +19,18 @@ pub extern "C" fn pf_machine_run(
     quantum: u64,
     rounds: u64,
 ) -> u8
-    ensures { λ answer. ⌜ leftBy answer (sizesOf window input output) (now (state .exit)) (now (partition .exit)) ≡ machineRunOf (sizesOf window input output) (now (state .entry)) (now (partition .entry)) (rounds * quantum) ⌝ }
+    ensures { λ answer. ⌜ leftBy answer (layoutOf window input output) (now (state .exit)) (now (partition .exit)) ≡ machineRunOf (layoutOf window input output) (now (state .entry)) (now (partition .entry)) (rounds * quantum) ⌝ }
 {
-    if state.len() != 34 {
+    if state.len() != encoding::STATE_LENGTH {
         return 1;
     }
-    let sizes = Sizes {
+    let layout = Layout {
         window,
         input,
         output,
     };
     let start = encoding::decode(&state[..]);
-    let end = rounds::run(start, partition, sizes, quantum, rounds);
+    let end = rounds::run(start, partition, layout, quantum, rounds);
     let bytes = encoding::encode(end);
     slices::copy(state, 0, &bytes);
     0

@@ -1,19 +1,20 @@
 ghost use mathlib.Core.Path.{_≡_};
 ghost use Prim.Native.Nat.{_*_};
-ghost use Rattle.cpu.specs.Machine.{beyond, machineOf, machineStep, times};
-use cpu::Sizes;
+ghost use Rattle.cpu.specs.Machine.{beyond, machineOf, machineStep};
+ghost use Rattle.common.specs.Repetition.{times};
+use common::Layout;
 use cpu::State;
 
 // So many rounds of a quantum each, until the machine stops; its state stays in a local from one to the next.
 pub(crate) fn run(
     state: State,
     partition: &mut [u8],
-    sizes: Sizes,
+    layout: Layout,
     quantum: u64,
     rounds: u64,
 ) -> State
-    ensures { λ s. ⌜ machineOf sizes s (now (partition .exit)) ≡ times (rounds * quantum) machineStep (machineOf sizes state (now (partition .entry))) ⌝ }
-    ensures { λ s. ⌜ beyond sizes (now (partition .exit)) ≡ beyond sizes (now (partition .entry)) ⌝ }
+    ensures { λ s. ⌜ machineOf layout s (now (partition .exit)) ≡ times (rounds * quantum) machineStep (machineOf layout state (now (partition .entry))) ⌝ }
+    ensures { λ s. ⌜ beyond layout (now (partition .exit)) ≡ beyond layout (now (partition .entry)) ⌝ }
 {
     let mut s = state;
     let mut i: u64 = 0;
@@ -21,7 +22,7 @@ pub(crate) fn run(
         if s.status != 1 {
             break;
         }
-        let next = cpu::run(s, partition, sizes, quantum);
+        let next = cpu::run(s, partition, layout, quantum);
         s = next;
         i += 1;
     }

@@ -1,29 +1,23 @@
 // A machine for an example: a state, and a window that is the whole of a lent array, without buffers.
+use common::Address;
+use common::Layout;
 use cpu::Cpu;
-use cpu::Sizes;
 use cpu::State;
 
 // About to run the instruction at an address, with R0, R1 and PSL given; all else is as in a fresh machine.
 pub(crate) fn started(counter: u16, r0: u8, r1: u8, psl: u8) -> State {
-    let cpu = Cpu {
-        counter,
-        registers: [r0, r1, 0, 0, 0, 0, 0],
-        psu: 0,
-        psl,
-        returns: [0, 0, 0, 0, 0, 0, 0, 0],
-    };
-    State {
-        cpu,
-        status: 1,
-        filled: 0,
-        read: 0,
-        written: 0,
-    }
+    let mut cpu = Cpu::fresh(Address(counter));
+    cpu.registers[0] = r0;
+    cpu.registers[1] = r1;
+    cpu.psl = psl;
+    let mut state = State::at_rest(cpu);
+    state.status = 1;
+    state
 }
 
-// A slice that is shorter than the sizes is all window.
-fn sizes() -> Sizes {
-    Sizes {
+// A slice that is shorter than the layout is all window.
+fn layout() -> Layout {
+    Layout {
         window: 32768,
         input: 0,
         output: 0,
@@ -31,11 +25,11 @@ fn sizes() -> Sizes {
 }
 
 pub(crate) fn run(state: State, window: &mut [u8], steps: u64) -> State {
-    cpu::run(state, window, sizes(), steps)
+    cpu::run(state, window, layout(), steps)
 }
 
 pub(crate) fn step(state: State, window: &mut [u8]) -> State {
-    cpu::step(state, window, sizes())
+    cpu::step(state, window, layout())
 }
 
 pub(crate) fn counter(s: State) -> u16 {

@@ -2,10 +2,10 @@
 use Prim.Native.Nat.{ℕ}
 use mathlib.Core.List.{List}
 use mathlib.Core.Path.{_≡_, sym, ap, _∙_}
-use Rattle.pattern.specs.Refusals.{Condition, unless}
+use Rattle.common.specs.Refusals.{Condition, unless}
 use Rattle.pattern.specs.Frame.{afterRecord}
 use Rattle.pattern.specs.Reader.{noValues, valuesIn, versionConditions, partitionConditions, codeConditions, inputConditions, endConditions, readOf}
-use Rattle.pattern.specs.RefusalLaws.{none-unless, unless-none, unless-refused}
+use Rattle.common.specs.RefusalLaws.{none-unless, unless-none, unless-refused}
 use Rattle.pattern.specs.ReaderLaws.{refused-accepted, accepted-same, version-is}
 use Rattle.pattern.specs.declared.values.Values.{Values}
 use Rattle.pattern.specs.declared.reader.Answer.{Answer}
@@ -59,3 +59,6 @@ module _ (v : Values) where
   pub after-input : (i e : List ℕ) {r : Answer} {w : Values} → e ≡ afterRecord i → r ≡ unless Refused (inputConditions v i) (Accepted v)
       → r ≡ Accepted w → onInput v i ≡ onEnd v e
   after-input i e place answered told = goes-on (inputConditions v i) v answered told _ ∙ ap (onEnd v) (sym place)
+
+  pub after-end : (e : List ℕ) {r : Answer} {w : Values} → r ≡ unless Refused (endConditions e) (Accepted v) → r ≡ Accepted w → onEnd v e ≡ Accepted v
+  after-end e answered told = goes-on (endConditions e) v answered told _

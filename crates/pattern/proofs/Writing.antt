@@ -1,43 +1,46 @@
 -- The five records written one after the other are the file, and an answer says what the buffer then holds.
 use Prim.Native.Nat.{ℕ, _+_, _≤_}
-use lib.ListN.{length, length-append}
-use mathlib.Core.List.{List, [], _++_, append-assoc}
-use mathlib.Core.Path.{_≡_, sym, ap, _∙_}
+use lib.ListN.{length}
+use mathlib.Core.List.{List, [], _∷_}
+use mathlib.Core.Path.{_≡_, refl, sym, ap, _∙_}
 use native.Mathlib.Omega.{arith}
 use Rattle.slices.specs.Slices.{copied}
-use Rattle.slices.specs.Laws.{copied-next, copied-front}
-use Rattle.pattern.specs.Frame.{recordOf}
-use Rattle.pattern.specs.Writer.{versionBody, partitionBody, recordsOf, fileOf, writeOf, leftBy, bufferOf}
+use Rattle.slices.specs.Laws.{copied-front}
+use Rattle.slices.specs.PieceLaws.{copiedEach, copied-each}
+use Rattle.pattern.specs.Values.{formOf, valuesBytes}
+use Rattle.pattern.specs.Frame.{frameSize, recordOf}
+use Rattle.pattern.specs.Writer.{versionBody, smallestSize, recordsOf, fileOf, writeOf, leftBy, bufferOf}
 use Rattle.pattern.specs.FrameLaws.{record-length}
-use Rattle.pattern.specs.WriterLaws.{WrittenIs, written-accepted}
+use Rattle.pattern.specs.WriterLaws.{file-length, WrittenIs, written-accepted}
 use Rattle.pattern.specs.declared.writer.Written.{Written}
 use Rattle.pattern.specs.declared.writer.Written.the-variants.{Length, Failed}
 use Rattle.pattern.specs.declared.values.Values.{Values}
 
-pub five-records : (v : Values) (code input d : List ℕ) {b1 b2 b3 b4 b5 : List ℕ} {n1 n2 n3 n4 : ℕ} → 31 + length code + length input ≤ length d
-    → (n1 ≡ 0 + 4 + length (versionBody v)) × (b1 ≡ copied d 0 (recordOf 0x56 (versionBody v)))
-    → (n2 ≡ n1 + 4 + length (partitionBody v)) × (b2 ≡ copied b1 n1 (recordOf 0x42 (partitionBody v)))
-    → (n3 ≡ n2 + 4 + length code) × (b3 ≡ copied b2 n2 (recordOf 0x43 code))
-    → (n4 ≡ n3 + 4 + length input) × (b4 ≡ copied b3 n3 (recordOf 0x49 input))
-    → b5 ≡ copied b4 n4 (recordOf 0x45 [])
-    → b5 ≡ copied d 0 (recordsOf v code input)
-unfolding recordsOf
-five-records v code input d {n1} {n2} {n3} {n4} room h1 h2 h3 h4 h5 =
-    let r1 : List ℕ = recordOf 0x56 (versionBody v) in
-    let r2 : List ℕ = recordOf 0x42 (partitionBody v) in
-    let r3 : List ℕ = recordOf 0x43 code in
-    let r4 : List ℕ = recordOf 0x49 input in
-    let r5 : List ℕ = recordOf 0x45 [] in
-    let l1 : length r1 ≡ 6 = record-length 0x56 (versionBody v) in
-    let l2 : length r2 ≡ 13 = record-length 0x42 (partitionBody v) in
-    let l3 : length r3 ≡ length code + 4 = record-length 0x43 code in
-    let l4 : length r4 ≡ length input + 4 = record-length 0x49 input in
-    let l5 : length r5 ≡ 4 = record-length 0x45 [] in
-    let p2 = copied-next d _ _ 0 n1 r1 r2 (h1 .1) (h2 .1) (omega arith) (omega arith) in
-    let p3 = copied-next d _ _ 0 n2 (r1 ++ r2) r3 p2 (h3 .1) (simp length-append (omega arith)) (simp length-append (omega arith)) in
-    let p4 = copied-next d _ _ 0 n3 (r1 ++ r2 ++ r3) r4 p3 (h4 .1) (simp length-append (omega arith)) (simp length-append (omega arith)) in
-    copied-next d _ _ 0 n4 (r1 ++ r2 ++ r3 ++ r4) r5 p4 h5 (simp length-append (omega arith)) (simp length-append (omega arith))
-    ∙ ap (copied d 0) (simp append-assoc)
+module _ (v : Values) (code input d : List ℕ) (n1 n2 n3 n4 : ℕ) where
+  abbrev r1 : List ℕ
+  r1 = recordOf 0x56 (versionBody v)
+
+  abbrev r2 : List ℕ
+  r2 = recordOf 0x42 (valuesBytes v)
+
+  abbrev r3 : List ℕ
+  r3 = recordOf 0x43 code
+
+  abbrev r4 : List ℕ
+  r4 = recordOf 0x49 input
+
+  pub five-records : smallestSize (formOf v) + length code + length input ≤ length d → n1 ≡ 0 + frameSize + length (versionBody v) → n2 ≡ n1 + frameSize + length (valuesBytes v)
+      → n3 ≡ n2 + frameSize + length code → n4 ≡ n3 + frameSize + length input
+      → copiedEach d ((0, r1) ∷ (n1, r2) ∷ (n2, r3) ∷ (n3, r4) ∷ (n4, recordOf 0x45 []) ∷ []) ≡ copied d 0 (recordsOf v code input)
+  unfolding recordsOf
+  five-records room e1 e2 e3 e4 =
+      let l1 : length r1 ≡ length (versionBody v) + frameSize = record-length 0x56 (versionBody v) in
+      let l2 : length r2 ≡ length (valuesBytes v) + frameSize = record-length 0x42 (valuesBytes v) in
+      let l3 : length r3 ≡ length code + frameSize = record-length 0x43 code in
+      let l4 : length r4 ≡ length input + frameSize = record-length 0x49 input in
+      copied-each ((0, r1) ∷ (n1, r2) ∷ (n2, r3) ∷ (n3, r4) ∷ (n4, recordOf 0x45 []) ∷ []) d 0
+      (refl, (omega arith, (omega arith, (omega arith, (omega arith, tt)))))
+      (omega (arith, file-length v code input))
 
 -- the two answers of a writing, each with what it leaves in the buffer
 module _ (v : Values) (image input d : List ℕ) where

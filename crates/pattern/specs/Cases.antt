@@ -1,14 +1,17 @@
 -- Laws that the checker has shown, by computation: K10's file and the edges of document 01.
+use Rattle.common.specs.Choice.{if_then_else_}
 use Prim.Native.Nat.{ℕ}
 use mathlib.Core.Bool.{true}
 use mathlib.Core.List.{List, [], _∷_, _++_}
 use mathlib.Core.Path.{_≡_, refl}
 use lib.ListN.{length}
-use Rattle.pattern.specs.Refusals.{unless}
-use Rattle.pattern.specs.Values.{inRange}
+use Rattle.common.specs.Refusals.{unless}
+use Rattle.common.specs.Layouts.{layoutSound}
+use Rattle.common.specs.Tests.{allAfter}
+use Rattle.pattern.specs.Values.{inRange, valuesAt, valuesBytes}
 use Rattle.pattern.specs.Frame.{recordOf, bodyLength, bodyOf, afterRecord, framed}
 use Rattle.pattern.specs.Image.{trim, padded, endsInZero}
-use Rattle.pattern.specs.Reader.{valuesIn, versionConditions, partitionConditions, codeConditions, inputConditions, endConditions, readOf, codeOf, inputOf}
+use Rattle.pattern.specs.Reader.{versionConditions, partitionConditions, codeConditions, inputConditions, endConditions, readOf, codeOf, inputOf}
 use Rattle.pattern.specs.Writer.{recordsOf, fileOf, writeConditions, writeOf}
 use Rattle.pattern.specs.declared.values.Values.{Values}
 use Rattle.pattern.specs.declared.reader.Answer.the-variants.{Accepted, Refused}
@@ -27,7 +30,7 @@ k10 =
     ∷ []
 
 abbrev pub values : ℕ → ℕ → Values
-values window start = record { window = window; input = 4; output = 4; start = start; quantum = 2 }
+values window start = record { layout = record { window = window; input = 4; output = 4 }; start = record { 0 = start }; quantum = 2 }
 
 -- the smallest file of a window size and a start address, each of two bytes
 abbrev pub small : ℕ → ℕ → ℕ → ℕ → List ℕ
@@ -50,7 +53,7 @@ pub record Worked : Type 0 where
   pub k10-more : readOf (k10 ++ (0x00 ∷ [])) ≡ Refused 6
   pub k10-body-left : codeOf (k10 ++ (0x00 ∷ [])) ≡ []
   pub smallest : length (small 0x00 0x10 0x00 0x00) ≡ 31
-  pub most-in-range : inRange (record { window = 32768; input = 4096; output = 4096; start = 32767; quantum = 255 }) ≡ true
+  pub most-in-range : inRange (record { layout = record { window = 32768; input = 4096; output = 4096 }; start = record { 0 = 32767 }; quantum = 255 }) ≡ true
   pub window-most : readOf (small 0x80 0x00 0x00 0x00) ≡ Accepted (values 32768 0)
   pub window-above : readOf (small 0x80 0x01 0x00 0x00) ≡ Refused 9
   pub window-above-written : writeOf (values 32769 0) [] [] 100 ≡ Failed 9
@@ -58,7 +61,7 @@ pub record Worked : Type 0 where
   pub start-outside : readOf (small 0x00 0x10 0x00 0x10) ≡ Refused 9
 
 pub worked : Worked
-unfolding unless inRange recordOf bodyLength bodyOf afterRecord framed trim endsInZero valuesIn versionConditions partitionConditions codeConditions inputConditions endConditions readOf codeOf inputOf recordsOf writeConditions writeOf
+unfolding unless if_then_else_ allAfter layoutSound inRange recordOf bodyLength bodyOf afterRecord framed trim endsInZero valuesAt valuesBytes versionConditions partitionConditions codeConditions inputConditions endConditions readOf codeOf inputOf recordsOf writeConditions writeOf
 worked =
     record {
       k10-values = refl;

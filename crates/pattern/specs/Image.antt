@@ -1,14 +1,15 @@
 -- Definitions that must be believed: the window's bytes, and the body of `PC` that stands for them.
 use Prim.Native.Nat.{ℕ, _-_}
-use mathlib.Core.Bool.{Bool, cond, not, _&&_}
+use mathlib.Core.Bool.{Bool, not, _&&_}
 use mathlib.Core.List.{List, [], _∷_, _++_}
 use lib.ListN.{length, getD, replicate}
 use lib.Dec.{eqb}
+use Rattle.common.specs.Choice.{if_then_else_}
 
 -- x in front of a trimmed list
 abbrev pub keep : ℕ → List ℕ → List ℕ
 keep x (y ∷ ys) = x ∷ y ∷ ys
-keep x [] = cond (eqb x 0) [] (x ∷ [])
+keep x [] = if eqb x 0 then [] else x ∷ []
 
 -- a list without its trailing zeros
 unfoldable pub trim : List ℕ → List ℕ

@@ -1,6 +1,6 @@
 -- Laws that the checker has shown: trimming and padding undo each other.
 use Prim.Native.Nat.{ℕ, zero, suc, _-_, _≤_, _<_}
-use mathlib.Core.Bool.{Bool, true, false, cond, not, _&&_}
+use mathlib.Core.Bool.{Bool, true, false, not, _&&_}
 use mathlib.Core.List.{List, [], _∷_, _++_, append-nil, append-assoc}
 use mathlib.Core.Path.{_≡_, refl, sym, ap, _∙_}
 use native.Mathlib.Omega.{arith}
@@ -8,12 +8,13 @@ use lib.ListN.{length, getD, take, replicate, length-append, length-take, length
 use lib.Seq.{take-length, take-suc}
 use lib.Dec.{eqb}
 use borrow.Author.Tests.{eqb-true, eqb-false, ne-eqb, eq-eqb}
+use Rattle.common.specs.Choice.{if_then_else_}
 use Rattle.pattern.specs.Image.{keep, trim, padded, endsInZero}
 
 -- ---- a trailing zero does not count, and a list whose last byte is not zero is left
 
 pub trim-zero : (xs : List ℕ) → trim (xs ++ (0 ∷ [])) ≡ trim xs
-unfolding trim
+unfolding trim if_then_else_
 trim-zero [] = refl
 trim-zero (x ∷ xs) = ap (keep x) (trim-zero xs)
 
@@ -22,7 +23,7 @@ keep-snoc x [] y = refl
 keep-snoc x (z ∷ zs) y = refl
 
 trim-last : (xs : List ℕ) (y : ℕ) → (y ≡ 0 → ⊥) → trim (xs ++ (y ∷ [])) ≡ xs ++ (y ∷ [])
-unfolding trim
+unfolding trim if_then_else_
 trim-last [] y h = simp (ne-eqb y 0 h)
 trim-last (x ∷ xs) y h = ap (keep x) (trim-last xs y h) ∙ keep-snoc x xs y
 
@@ -39,7 +40,7 @@ trim-stop s n h k z = ap trim (take-last s n h k) ∙ trim-last (take (n - 1) s)
 
 -- the trimmed list is a front
 pub trim-front : (s : List ℕ) → take (length (trim s)) s ≡ trim s
-unfolding trim
+unfolding trim if_then_else_
 trim-front [] = refl
 trim-front (x ∷ xs) = go (trim xs) (trim-front xs)
   where
@@ -47,7 +48,7 @@ trim-front (x ∷ xs) = go (trim xs) (trim-front xs)
     go (y ∷ ys) e = ap (λ (l : List ℕ). x ∷ l) e
     go [] e = single (eqb x 0)
       where
-        single : (b : Bool) → take (length (cond b [] (x ∷ []))) (x ∷ xs) ≡ cond b [] (x ∷ [])
+        single : (b : Bool) → take (length (if b then [] else x ∷ [])) (x ∷ xs) ≡ (if b then [] else x ∷ [])
         single true = refl
         single false = refl
 
@@ -72,9 +73,10 @@ is-ends s h = go (eqb (length s) 0) refl
     go false e = ne-eqb (getD s (length s - 1) 0) 0 (h (eqb-false (length s) 0 e))
 
 ends-keep : (x : ℕ) (t : List ℕ) → Ends t → Ends (keep x t)
+unfolding if_then_else_
 ends-keep x [] h = single (eqb x 0) refl
   where
-    single : (b : Bool) → eqb x 0 ≡ b → Ends (cond b [] (x ∷ []))
+    single : (b : Bool) → eqb x 0 ≡ b → Ends (if b then [] else x ∷ [])
     single true e some = absurd (some refl)
     single false e some = eqb-false x 0 e
 ends-keep x (y ∷ ys) h =
@@ -83,7 +85,7 @@ ends-keep x (y ∷ ys) h =
     λ some last. h none (sym (ap (λ (i : ℕ). getD (x ∷ y ∷ ys) i 0) e) ∙ last)
 
 trimmed-ends : (s : List ℕ) → Ends (trim s)
-unfolding trim
+unfolding trim if_then_else_
 trimmed-ends [] = λ some. absurd (some refl)
 trimmed-ends (x ∷ xs) = ends-keep x (trim xs) (trimmed-ends xs)
 
@@ -101,9 +103,10 @@ pub padded-length : (n : ℕ) (code : List ℕ) → length code ≤ n → length
 padded-length n code h = simp (length-append, length-replicate) (omega arith)
 
 pad-keep : (x : ℕ) (xs t : List ℕ) → padded (length xs) t ≡ xs → padded (length (x ∷ xs)) (keep x t) ≡ x ∷ xs
+unfolding if_then_else_
 pad-keep x xs [] h = single (eqb x 0) refl
   where
-    single : (b : Bool) → eqb x 0 ≡ b → padded (length (x ∷ xs)) (cond b [] (x ∷ [])) ≡ x ∷ xs
+    single : (b : Bool) → eqb x 0 ≡ b → padded (length (x ∷ xs)) (if b then [] else x ∷ []) ≡ x ∷ xs
     single true e =
         let i : length (x ∷ xs) - 0 ≡ suc (length xs - 0) = omega arith in
         ap (λ (n : ℕ). replicate n 0) i ∙ ap (λ (l : List ℕ). 0 ∷ l) h ∙ ap (λ (z : ℕ). z ∷ xs) (sym (eqb-true x 0 e))
@@ -115,7 +118,7 @@ pad-keep x xs (y ∷ ys) h =
     ap (λ (n : ℕ). x ∷ y ∷ (ys ++ replicate n 0)) i ∙ ap (λ (l : List ℕ). x ∷ l) h
 
 pub padded-trim : (s : List ℕ) → padded (length s) (trim s) ≡ s
-unfolding trim
+unfolding trim if_then_else_
 padded-trim [] = refl
 padded-trim (x ∷ xs) = pad-keep x xs (trim xs) (padded-trim xs)
 
@@ -124,7 +127,7 @@ trim-zeros zero s = ap trim (append-nil s)
 trim-zeros (suc k) s = ap trim (sym (append-assoc s (0 ∷ []) (replicate k 0))) ∙ trim-zeros k (s ++ (0 ∷ [])) ∙ trim-zero s
 
 pub trim-kept : (s : List ℕ) → endsInZero s ≡ false → trim s ≡ s
-unfolding trim
+unfolding trim if_then_else_
 trim-kept [] h = refl
 trim-kept (x ∷ xs) h =
     let s : List ℕ = x ∷ xs in

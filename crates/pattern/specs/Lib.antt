@@ -1,12 +1,10 @@
--- The files of this folder. Definitions that must be believed: Refusals, Values, Frame, Image, Reader, Writer.
+-- The files of this folder. Definitions that must be believed: Values, Frame, Image, Reader, Writer.
 -- Laws that the checker has shown: the files whose names end in Laws, RoundTrip, Theorems, Cases.
-pub mod Refusals
 pub mod Values
 pub mod Frame
 pub mod Image
 pub mod Reader
 pub mod Writer
-pub mod RefusalLaws
 pub mod ValuesLaws
 pub mod FrameLaws
 pub mod ImageLaws

@@ -1,14 +1,13 @@
 -- Definitions that must be believed: reading a pattern file (document 01, "Pattern file, form 1" and "Turned back, by place").
-use Prim.Native.Nat.{ℕ}
+use Prim.Native.Nat.{ℕ, _+_}
 use mathlib.Core.Bool.{not}
 use mathlib.Core.List.{List, [], _∷_}
 use mathlib.Core.Path.{_≡_}
 use lib.ListN.{length, getD}
 use lib.Dec.{ltb, eqb}
-use Rattle.slices.specs.Slices.{wordAt}
-use Rattle.pattern.specs.Refusals.{Condition, _gives_, unless}
-use Rattle.pattern.specs.Values.{inRange, partitionSize}
-use Rattle.pattern.specs.Frame.{bodyLength, bodyOf, afterRecord, framed, fixed}
+use Rattle.common.specs.Refusals.{Condition, _gives_, unless}
+use Rattle.pattern.specs.Values.{inRange, partitionSize, valuesAt}
+use Rattle.pattern.specs.Frame.{frameSize, bodyLength, bodyOf, recordSize, afterRecord, framed, fixed}
 use Rattle.pattern.specs.Image.{padded, endsInZero}
 use Rattle.pattern.specs.declared.values.Values.{Values}
 use Rattle.pattern.specs.declared.reader.Answer.{Answer}
@@ -27,35 +26,35 @@ fromInput s = afterRecord (fromCode s)
 abbrev pub fromEnd : List ℕ → List ℕ
 fromEnd s = afterRecord (fromInput s)
 
--- the form that `PV` at the front of s names
+-- the form and the board that `PV` at the front of s names
 abbrev pub formIn : List ℕ → ℕ
-formIn s = getD s 4 0
+formIn s = getD (bodyOf s) 0 0
+
+abbrev pub boardIn : List ℕ → ℕ
+boardIn s = getD (bodyOf s) 1 0
 
 -- the values in the body of `PB` at the front of s, in a file of that form
-unfoldable pub valuesIn : ℕ → List ℕ → Values
-valuesIn form s =
-    record {
-      window = wordAt s 4;
-      input = wordAt s 6;
-      output = wordAt s 8;
-      start = wordAt s 10;
-      quantum = getD s 12 0;
-    }
+abbrev pub valuesIn : ℕ → List ℕ → Values
+valuesIn form s = valuesAt (bodyOf s)
 
 -- before `PB` is read there are no values
 abbrev pub noValues : Values
-noValues = record { window = 0; input = 0; output = 0; start = 0; quantum = 0 }
+noValues = record { layout = record { window = 0; input = 0; output = 0 }; start = record { 0 = 0 }; quantum = 0 }
+
+-- the length of the body of `PV`
+abbrev pub versionSize : ℕ
+versionSize = 2
 
 -- what refuses each record, at the front of s, in order
--- `PV` (50h 56h), 2 bytes: form 1, board 1
+-- `PV` (50h 56h): form 1, board 1
 unfoldable pub versionConditions : List ℕ → List Condition
 versionConditions s =
-    not (fixed 0x56 2 s) gives 6
+    not (fixed 0x56 versionSize s) gives 6
     ∷ not (eqb (formIn s) 1) gives 7
-    ∷ not (eqb (getD s 5 0) 1) gives 8
+    ∷ not (eqb (boardIn s) 1) gives 8
     ∷ []
 
--- `PB` (50h 42h), 9 bytes: the values
+-- `PB` (50h 42h): the values
 unfoldable pub partitionConditions : ℕ → List ℕ → List Condition
 partitionConditions form s =
     not (fixed 0x42 (partitionSize form) s) gives 6
@@ -66,7 +65,7 @@ partitionConditions form s =
 unfoldable pub codeConditions : Values → List ℕ → List Condition
 codeConditions v s =
     not (framed 0x43 s) gives 6
-    ∷ ltb (v .window) (bodyLength s) gives 10
+    ∷ ltb (v .layout .window) (bodyLength s) gives 10
     ∷ endsInZero (bodyOf s) gives 10
     ∷ []
 
@@ -74,14 +73,14 @@ codeConditions v s =
 unfoldable pub inputConditions : Values → List ℕ → List Condition
 inputConditions v s =
     not (framed 0x49 s) gives 6
-    ∷ ltb (v .input) (bodyLength s) gives 11
+    ∷ ltb (v .layout .input) (bodyLength s) gives 11
     ∷ []
 
--- `PE` (50h 45h), 0 bytes, and the file ends
+-- `PE` (50h 45h): no byte, and the file ends
 unfoldable pub endConditions : List ℕ → List Condition
 endConditions s =
     not (fixed 0x45 0 s) gives 6
-    ∷ ltb 4 (length s) gives 6
+    ∷ ltb frameSize (length s) gives 6
     ∷ []
 
 -- the values in a file
@@ -114,9 +113,16 @@ codeOf s = ifAccepted (readOf s) (bodyOf (fromCode s))
 unfoldable pub inputOf : List ℕ → List ℕ
 inputOf s = ifAccepted (readOf s) (bodyOf (fromInput s))
 
+-- where these bodies start in the file: each record stands behind the ones before it
+abbrev pub codePlace : List ℕ → ℕ
+codePlace s = recordSize s + recordSize (fromPartition s) + frameSize
+
+abbrev pub inputPlace : List ℕ → ℕ
+inputPlace s = recordSize s + recordSize (fromPartition s) + recordSize (fromCode s) + frameSize
+
 -- the window of an accepted file: the code from address 0, the rest zero
 abbrev pub imageOf : List ℕ → List ℕ
-imageOf s = padded (valuesOf s .window) (codeOf s)
+imageOf s = padded (valuesOf s .layout .window) (codeOf s)
 
 -- s is accepted, and it is a file of the pattern of those values, window and first input
 pub record IsFile (s : List ℕ) (v : Values) (image input : List ℕ) : Type 0 where

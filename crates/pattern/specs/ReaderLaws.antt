@@ -1,18 +1,21 @@
 -- Laws that the checker has shown: what an accepted file is, record by record.
+use Rattle.common.specs.Choice.{if_then_else_}
 use Prim.Native.Nat.{ℕ, _+_, _≤_}
-use mathlib.Core.Bool.{Bool, true, false, cond}
+use mathlib.Core.Bool.{Bool, true, false}
 use mathlib.Core.List.{List, [], _∷_}
-use mathlib.Core.Path.{_≡_, refl, ap, subst, _∙_}
+use mathlib.Core.Path.{_≡_, refl, sym, ap, subst, _∙_}
 use native.Mathlib.Omega.{arith}
-use lib.ListN.{length, getD}
+use lib.ListN.{length, take, drop}
+use lib.Seq.{drop-drop}
 use lib.Dec.{eqb}
 use borrow.Author.Tests.{eqb-true, ltb-false, not-false}
 use Rattle.pattern.specs.Values.{inRange, partitionSize}
-use Rattle.pattern.specs.Frame.{bodyLength, bodyOf, framed, fixed}
+use Rattle.pattern.specs.Frame.{frameSize, bodyLength, bodyOf, recordSize, afterRecord, framed, fixed}
 use Rattle.pattern.specs.Image.{endsInZero}
-use Rattle.pattern.specs.Reader.{fromPartition, fromCode, fromInput, fromEnd, formIn, valuesIn, valuesOf, versionConditions, partitionConditions, codeConditions, inputConditions, endConditions, readOf, refusalOf, ifAccepted, codeOf, inputOf}
-use Rattle.pattern.specs.Refusals.{Condition, unless}
-use Rattle.pattern.specs.RefusalLaws.{None, none-unless, unless-none}
+use Rattle.pattern.specs.Reader.{fromPartition, fromCode, fromInput, fromEnd, formIn, boardIn, valuesIn, valuesOf, versionSize, versionConditions, partitionConditions, codeConditions, inputConditions, endConditions, readOf, refusalOf, ifAccepted, codeOf, inputOf, codePlace, inputPlace}
+use Rattle.common.specs.Refusals.{Condition, unless}
+use Rattle.common.specs.RefusalLaws.{None, none-unless, unless-none}
+use Rattle.slices.specs.Slices.{partOf}
 use Rattle.pattern.specs.ValuesLaws.{Ranges, ranges}
 use Rattle.pattern.specs.FrameLaws.{FrameIs, framed-is, fixed-is, frame-body-length}
 use Rattle.pattern.specs.declared.values.Values.{Values}
@@ -57,19 +60,19 @@ passes-accepted s v p =
 -- what each record at the front of a list is, where none of its conditions holds
 pub record VersionIs (s : List ℕ) : Type 0 where
   pub frame : FrameIs 0x56 s
-  pub size : bodyLength s ≡ 2
+  pub size : bodyLength s ≡ versionSize
   pub form : formIn s ≡ 1
-  pub board : getD s 5 0 ≡ 1
+  pub board : boardIn s ≡ 1
 
 pub version-is : (s : List ℕ) → None (versionConditions s) → VersionIs s
 unfolding versionConditions
 version-is s h =
-    let f = fixed-is 0x56 2 s (not-false (fixed 0x56 2 s) (h .0)) in
+    let f = fixed-is 0x56 versionSize s (not-false (fixed 0x56 versionSize s) (h .0)) in
     record {
       frame = f .0;
       size = f .1;
       form = eqb-true (formIn s) 1 (not-false (eqb (formIn s) 1) (h .1 .0));
-      board = eqb-true (getD s 5 0) 1 (not-false (eqb (getD s 5 0) 1) (h .1 .1 .0));
+      board = eqb-true (boardIn s) 1 (not-false (eqb (boardIn s) 1) (h .1 .1 .0));
     }
 
 pub record PartitionIs (form : ℕ) (s : List ℕ) : Type 0 where
@@ -85,7 +88,7 @@ partition-is form s h =
 
 pub record CodeIs (v : Values) (s : List ℕ) : Type 0 where
   pub frame : FrameIs 0x43 s
-  pub small : bodyLength s ≤ v .window
+  pub small : bodyLength s ≤ v .layout .window
   pub ends : endsInZero (bodyOf s) ≡ false
 
 pub code-is : (v : Values) (s : List ℕ) → None (codeConditions v s) → CodeIs v s
@@ -93,30 +96,30 @@ unfolding codeConditions
 code-is v s h =
     record {
       frame = framed-is 0x43 s (not-false (framed 0x43 s) (h .0));
-      small = ltb-false (v .window) (bodyLength s) (h .1 .0);
+      small = ltb-false (v .layout .window) (bodyLength s) (h .1 .0);
       ends = h .1 .1 .0;
     }
 
 pub record InputIs (v : Values) (s : List ℕ) : Type 0 where
   pub frame : FrameIs 0x49 s
-  pub small : bodyLength s ≤ v .input
+  pub small : bodyLength s ≤ v .layout .input
 
 pub input-is : (v : Values) (s : List ℕ) → None (inputConditions v s) → InputIs v s
 unfolding inputConditions
 input-is v s h =
-    record { frame = framed-is 0x49 s (not-false (framed 0x49 s) (h .0)); small = ltb-false (v .input) (bodyLength s) (h .1 .0) }
+    record { frame = framed-is 0x49 s (not-false (framed 0x49 s) (h .0)); small = ltb-false (v .layout .input) (bodyLength s) (h .1 .0) }
 
 pub record EndIs (s : List ℕ) : Type 0 where
   pub frame : FrameIs 0x45 s
   pub size : bodyLength s ≡ 0
-  pub ends : length s ≡ 4
+  pub ends : length s ≡ frameSize
 
 pub end-is : (s : List ℕ) → None (endConditions s) → EndIs s
 unfolding endConditions
 end-is s h =
     let f = fixed-is 0x45 0 s (not-false (fixed 0x45 0 s) (h .0)) in
-    let last : length s ≤ 4 = ltb-false 4 (length s) (h .1 .0) in
-    let room : bodyLength s + 4 ≤ length s = f .0 .room in
+    let last : length s ≤ frameSize = ltb-false frameSize (length s) (h .1 .0) in
+    let room : recordSize s ≤ length s = f .0 .room in
     record { frame = f .0; size = f .1; ends = omega arith }
 
 -- the whole of an accepted file
@@ -162,19 +165,51 @@ module _ (s : List ℕ) (v : Values) (accepted : readOf s ≡ Accepted v) where
   pub input-length : length (inputOf s) ≡ bodyLength (fromInput s)
   input-length = ap length input-body-is ∙ frame-body-length 0x49 (fromInput s) (file-is s v accepted .input .frame)
 
-  pub code-fits : length (codeOf s) ≤ v .window
+  pub code-fits : length (codeOf s) ≤ v .layout .window
   code-fits =
       let f = file-is s v accepted in
-      let small : bodyLength (fromCode s) ≤ valuesOf s .window = f .code .small in
-      let e : valuesOf s .window ≡ v .window = ap (λ (w : Values). w .window) (f .same) in
+      let small : bodyLength (fromCode s) ≤ valuesOf s .layout .window = f .code .small in
+      let e : valuesOf s .layout .window ≡ v .layout .window = ap (λ (w : Values). w .layout .window) (f .same) in
       omega (arith, code-length)
 
-  pub input-fits : length (inputOf s) ≤ v .input
+  pub input-fits : length (inputOf s) ≤ v .layout .input
   input-fits =
       let f = file-is s v accepted in
-      let small : bodyLength (fromInput s) ≤ valuesOf s .input = f .input .small in
-      let e : valuesOf s .input ≡ v .input = ap (λ (w : Values). w .input) (f .same) in
+      let small : bodyLength (fromInput s) ≤ valuesOf s .layout .input = f .input .small in
+      let e : valuesOf s .layout .input ≡ v .layout .input = ap (λ (w : Values). w .layout .input) (f .same) in
       omega (arith, input-length)
+
+  -- they stand where the places say, and the places have two bytes
+  pub code-at : partOf s (codePlace s) (length (codeOf s)) ≡ codeOf s
+  unfolding bodyOf afterRecord
+  code-at =
+      sym (
+      code-body-is
+      ∙ ap (λ (n : ℕ). partOf (fromCode s) frameSize n) (sym code-length)
+      ∙ ap (take (length (codeOf s)))
+      (ap (drop frameSize) (drop-drop (recordSize (fromPartition s)) (recordSize s) s)
+      ∙ drop-drop frameSize (recordSize s + recordSize (fromPartition s)) s)
+      )
+
+  pub input-at : partOf s (inputPlace s) (length (inputOf s)) ≡ inputOf s
+  unfolding bodyOf afterRecord
+  input-at =
+      sym (
+      input-body-is
+      ∙ ap (λ (n : ℕ). partOf (fromInput s) frameSize n) (sym input-length)
+      ∙ ap (take (length (inputOf s)))
+      (ap (λ (l : List ℕ). drop frameSize (drop (recordSize (fromCode s)) l)) (drop-drop (recordSize (fromPartition s)) (recordSize s) s)
+      ∙ ap (drop frameSize) (drop-drop (recordSize (fromCode s)) (recordSize s + recordSize (fromPartition s)) s)
+      ∙ drop-drop frameSize (recordSize s + recordSize (fromPartition s) + recordSize (fromCode s)) s)
+      )
+
+  pub code-place-is : codePlace s ≡ frameSize + versionSize + frameSize + partitionSize (formIn s) + frameSize
+  code-place-is =
+      let f = file-is s v accepted in
+      omega (arith, f .version .size, f .partition .size)
+
+  pub input-place-is : inputPlace s ≡ codePlace s + length (codeOf s) + frameSize
+  input-place-is = omega (arith, code-length)
 
   pub code-ends : endsInZero (codeOf s) ≡ false
   code-ends = ap endsInZero code-body-is ∙ file-is s v accepted .code .ends
@@ -185,13 +220,13 @@ Numbered [] = Unit {0}
 Numbered (k ∷ ks) = (k .number ≡ 0 → ⊥) × Numbered ks
 
 unless-zero : (ks : List Condition) (a : Answer) → Numbered ks → refusalOf (unless Refused ks a) ≡ 0 → (unless Refused ks a ≡ a) × (refusalOf a ≡ 0)
-unfolding unless
+unfolding unless if_then_else_
 unless-zero [] a n e = (refl, e)
 unless-zero (k ∷ ks) a n e = go (k .holds) e (unless-zero ks a (n .1))
   where
-    go : (b : Bool) → refusalOf (cond b (Refused (k .number)) (unless Refused ks a)) ≡ 0
+    go : (b : Bool) → refusalOf (if b then Refused (k .number) else unless Refused ks a) ≡ 0
         → (refusalOf (unless Refused ks a) ≡ 0 → (unless Refused ks a ≡ a) × (refusalOf a ≡ 0))
-        → (cond b (Refused (k .number)) (unless Refused ks a) ≡ a) × (refusalOf a ≡ 0)
+        → ((if b then Refused (k .number) else unless Refused ks a) ≡ a) × (refusalOf a ≡ 0)
     go true e further = absurd (n .0 e)
     go false e further = further e
 

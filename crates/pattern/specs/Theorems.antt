@@ -8,10 +8,10 @@ use native.Mathlib.Omega.{arith}
 use lib.ListN.{length, take, drop, replicate, length-replicate}
 use lib.Seq.{take-at}
 use Rattle.slices.specs.Slices.{Bytes}
-use Rattle.pattern.specs.Values.{inRange}
+use Rattle.pattern.specs.Values.{inRange, formOf}
 use Rattle.pattern.specs.Image.{trim, padded, endsInZero}
 use Rattle.pattern.specs.Reader.{valuesOf, readOf, codeOf, inputOf, imageOf, IsFile}
-use Rattle.pattern.specs.Writer.{recordsOf, fileOf, writeOf, leftBy, bufferOf}
+use Rattle.pattern.specs.Writer.{recordsOf, smallestSize, fileOf, writeOf, leftBy, bufferOf}
 use Rattle.pattern.specs.ImageLaws.{trim-short, trim-ends, trim-kept, replicate-ends, padded-trim, padded-length, trim-padded}
 use Rattle.pattern.specs.ReaderLaws.{file-is, read-in-range, read-ranges, code-fits, input-fits, code-ends}
 use Rattle.pattern.specs.WriterLaws.{file-length, written-accepted, accepted-written}
@@ -22,8 +22,8 @@ use Rattle.pattern.specs.declared.writer.Written.{Written}
 use Rattle.pattern.specs.declared.writer.Written.the-variants.{Length}
 
 -- a pattern that can be written: its values are in range, the image fills the window, the input fits
-module _ (v : Values) (image input : List ℕ) (range : inRange v ≡ true) (whole : length image ≡ v .window) (few : length input ≤ v .input) where
-  short : length (trim image) ≤ v .window
+module _ (v : Values) (image input : List ℕ) (range : inRange v ≡ true) (whole : length image ≡ v .layout .window) (few : length input ≤ v .layout .input) where
+  short : length (trim image) ≤ v .layout .window
   short = omega (arith, trim-short image)
 
   file-code : codeOf (fileOf v image input) ≡ trim image
@@ -38,8 +38,8 @@ module _ (v : Values) (image input : List ℕ) (range : inRange v ≡ true) (who
       record {
         values = file-values;
         window =
-            ap (λ (w : Values). padded (w .window) (codeOf (fileOf v image input))) (file-is (fileOf v image input) v file-values .same)
-            ∙ ap (padded (v .window)) file-code
+            ap (λ (w : Values). padded (w .layout .window) (codeOf (fileOf v image input))) (file-is (fileOf v image input) v file-values .same)
+            ∙ ap (padded (v .layout .window)) file-code
             ∙ ap (λ (n : ℕ). padded n (trim image)) (sym whole)
             ∙ padded-trim image;
         first = input-of-records v (trim image) input range short (trim-ends image) few;
@@ -60,13 +60,13 @@ read-written v image input buffer n h =
 
 -- an accepted file, of bytes
 module _ (s : List ℕ) (v : Values) (bytes : Bytes s) (accepted : readOf s ≡ Accepted v) where
-  window-of : valuesOf s .window ≡ v .window
-  window-of = ap (λ (w : Values). w .window) (file-is s v accepted .same)
+  window-of : valuesOf s .layout .window ≡ v .layout .window
+  window-of = ap (λ (w : Values). w .layout .window) (file-is s v accepted .same)
 
   -- is the file of its pattern
   pub file-again : fileOf v (imageOf s) (inputOf s) ≡ s
   file-again =
-      ap (λ (code : List ℕ). recordsOf v code (inputOf s)) (trim-padded (valuesOf s .window) (codeOf s) (code-ends s v accepted))
+      ap (λ (code : List ℕ). recordsOf v code (inputOf s)) (trim-padded (valuesOf s .layout .window) (codeOf s) (code-ends s v accepted))
       ∙ records-again s v bytes accepted
 
   -- written again into a buffer with room, it has the same bytes, and the rest of the buffer is left
@@ -75,11 +75,11 @@ module _ (s : List ℕ) (v : Values) (bytes : Bytes s) (accepted : readOf s ≡ 
       × (bufferOf v (imageOf s) (inputOf s) buffer ≡ s ++ drop (length s) buffer)
   written-again buffer room =
       let size : length (fileOf v (imageOf s) (inputOf s)) ≡ length s = ap length file-again in
-      let fits : length (codeOf s) ≤ valuesOf s .window = omega (arith, code-fits s v accepted, window-of) in
+      let fits : length (codeOf s) ≤ valuesOf s .layout .window = omega (arith, code-fits s v accepted, window-of) in
       let e : writeOf v (imageOf s) (inputOf s) (length buffer) ≡ Length (length s) =
       written-accepted v (imageOf s) (inputOf s) (length buffer) (record {
         range = read-in-range s v accepted;
-        whole = padded-length (valuesOf s .window) (codeOf s) fits ∙ window-of;
+        whole = padded-length (valuesOf s .layout .window) (codeOf s) fits ∙ window-of;
         few = input-fits s v accepted;
         fits = omega arith;
       })
@@ -89,8 +89,8 @@ module _ (s : List ℕ) (v : Values) (bytes : Bytes s) (accepted : readOf s ≡ 
         ap (λ (x : Written). leftBy x (fileOf v (imageOf s) (inputOf s)) buffer) e ∙ ap (λ (l : List ℕ). l ++ drop (length s) buffer) file-again,
       )
 
-  -- its length is that of its two bodies and 31 bytes
-  pub accepted-length : length s ≡ 31 + length (codeOf s) + length (inputOf s)
+  -- its length is that of its two bodies and of the smallest file
+  pub accepted-length : length s ≡ smallestSize (formOf v) + length (codeOf s) + length (inputOf s)
   accepted-length = sym (ap length (records-again s v bytes accepted)) ∙ file-length v (codeOf s) (inputOf s)
 
   pub smallest : 31 ≤ length s
@@ -110,23 +110,23 @@ one-file s t v image input bs bt hs ht =
 
 -- both bounds are reached: by a window of zeros without input, and by the largest window, with no zero in it, and the largest input
 pub smallest-reached : (v : Values) → inRange v ≡ true
-    → IsFile (fileOf v (replicate (v .window) 0) []) v (replicate (v .window) 0) [] × (length (fileOf v (replicate (v .window) 0) []) ≡ 31)
+    → IsFile (fileOf v (replicate (v .layout .window) 0) []) v (replicate (v .layout .window) 0) [] × (length (fileOf v (replicate (v .layout .window) 0) []) ≡ 31)
 unfolding endsInZero
 smallest-reached v range =
-    let n : ℕ = v .window in
+    let n : ℕ = v .layout .window in
     let k : n ≡ n - 0 = omega arith in
     let none : trim (replicate n 0) ≡ [] = ap (λ (i : ℕ). trim (replicate i 0)) k ∙ trim-padded n [] refl in (
       file-is-file v (replicate n 0) [] range (length-replicate n 0) (omega arith),
-      file-length v (trim (replicate n 0)) [] ∙ ap (λ (code : List ℕ). 31 + length code + 0) none,
+      file-length v (trim (replicate n 0)) [] ∙ ap (λ (code : List ℕ). smallestSize (formOf v) + length code + 0) none,
     )
 
-pub largest-reached : (v : Values) → inRange v ≡ true → v .window ≡ 32768 → v .input ≡ 4096
-    → IsFile (fileOf v (replicate (v .window) 1) (replicate (v .input) 0)) v (replicate (v .window) 1) (replicate (v .input) 0)
-    × (length (fileOf v (replicate (v .window) 1) (replicate (v .input) 0)) ≡ 36895)
+pub largest-reached : (v : Values) → inRange v ≡ true → v .layout .window ≡ 32768 → v .layout .input ≡ 4096
+    → IsFile (fileOf v (replicate (v .layout .window) 1) (replicate (v .layout .input) 0)) v (replicate (v .layout .window) 1) (replicate (v .layout .input) 0)
+    × (length (fileOf v (replicate (v .layout .window) 1) (replicate (v .layout .input) 0)) ≡ 36895)
 largest-reached v range window input =
-    let image : List ℕ = replicate (v .window) 1 in
-    let given : List ℕ = replicate (v .input) 0 in
-    let size : length image ≡ v .window = length-replicate (v .window) 1 in
-    let count : length given ≡ v .input = length-replicate (v .input) 0 in
-    let full : length (trim image) ≡ length image = ap length (trim-kept image (replicate-ends (v .window) 1 (λ e. omega arith))) in
+    let image : List ℕ = replicate (v .layout .window) 1 in
+    let given : List ℕ = replicate (v .layout .input) 0 in
+    let size : length image ≡ v .layout .window = length-replicate (v .layout .window) 1 in
+    let count : length given ≡ v .layout .input = length-replicate (v .layout .input) 0 in
+    let full : length (trim image) ≡ length image = ap length (trim-kept image (replicate-ends (v .layout .window) 1 (λ e. omega arith))) in
     (file-is-file v image given range size (omega arith), file-length v (trim image) given ∙ (omega arith))

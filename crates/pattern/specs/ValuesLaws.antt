@@ -1,42 +1,61 @@
--- Laws that the checker has shown: what values in range are.
-use Prim.Native.Nat.{ℕ, _≤_, _<_}
-use mathlib.Core.Bool.{Bool, true, _&&_}
-use mathlib.Core.Path.{_≡_}
-use lib.Dec.{ltb, leb}
-use borrow.Author.Tests.{ltb-true, leb-true}
-use Rattle.pattern.specs.Values.{within, inRange}
-use Rattle.pattern.specs.RefusalLaws.{both}
+-- Laws that the checker has shown: what values in range are; values as bytes are those values again, and back.
+use Prim.Native.Nat.{ℕ, _<_}
+use mathlib.Core.Bool.{true}
+use mathlib.Core.List.{List, [], _∷_}
+use mathlib.Core.Path.{_≡_, refl, _∙_}
+use native.Mathlib.Omega.{arith}
+use borrow.Author.Tests.{ltb-true}
+use lib.ListN.{length}
+use lib.Seq.{take-all}
+use Rattle.common.specs.LayoutLaws.{LayoutSound, layout-fact}
+use Rattle.common.specs.TestLaws.{Within, within-fact, all-holds}
+use Rattle.slices.specs.NumberLaws.{pair-back, pair-again}
+use Rattle.slices.specs.PieceLaws.{parts-joined, part-listed}
+use Rattle.slices.specs.Slices.{Bytes, joined}
+use Rattle.pattern.specs.Values.{inRange, partitionSize, formOf, valuesBytes, valuesAt}
 use Rattle.pattern.specs.declared.values.Values.{Values}
 
-pub record Within (n most : ℕ) : Type 0 where
-  pub some : 1 ≤ n
-  pub fits : n ≤ most
-
 pub record Ranges (v : Values) : Type 0 where
-  pub window : Within (v .window) 32768
-  pub input : Within (v .input) 4096
-  pub output : Within (v .output) 4096
-  pub start : v .start < v .window
+  pub layout : LayoutSound (v .layout)
+  pub start : v .start .0 < v .layout .window
   pub quantum : Within (v .quantum) 255
-
-within-is : (n most : ℕ) → within n most ≡ true → Within n most
-within-is n most h = let p = both (leb 1 n) (leb n most) h in record { some = leb-true 1 n (p .0); fits = leb-true n most (p .1) }
 
 pub ranges : (v : Values) → inRange v ≡ true → Ranges v
 unfolding inRange
 ranges v h =
-    let window : Bool = within (v .window) 32768 in
-    let input : Bool = within (v .input) 4096 in
-    let output : Bool = within (v .output) 4096 in
-    let start : Bool = ltb (v .start) (v .window) in
-    let p = both (window && input && output && start) (within (v .quantum) 255) h in
-    let q = both (window && input && output) start (p .0) in
-    let r = both (window && input) output (q .0) in
-    let t = both window input (r .0) in
+    let (layout, (start, (quantum, _))) = all-holds _ h in
+    record { layout = layout-fact _ layout; start = ltb-true _ _ start; quantum = within-fact _ 255 quantum }
+
+pub values-size : (v : Values) → length (valuesBytes v) ≡ partitionSize (formOf v)
+unfolding valuesBytes
+values-size v = refl
+
+pub values-back : (v : Values) → valuesAt (valuesBytes v) ≡ v
+unfolding valuesAt valuesBytes
+values-back v =
+    λ j.
     record {
-      window = within-is (v .window) 32768 (t .0);
-      input = within-is (v .input) 4096 (t .1);
-      output = within-is (v .output) 4096 (r .1);
-      start = ltb-true (v .start) (v .window) (q .1);
-      quantum = within-is (v .quantum) 255 (p .1);
+      layout =
+          record {
+            window = pair-back (v .layout .window) [] j;
+            input = pair-back (v .layout .input) [] j;
+            output = pair-back (v .layout .output) [] j;
+          };
+      start = record { 0 = pair-back (v .start .0) [] j };
+      quantum = v .quantum;
     }
+
+pub values-again : (form : ℕ) (l : List ℕ) → length l ≡ partitionSize form → Bytes l → valuesBytes (valuesAt l) ≡ l
+unfolding valuesAt valuesBytes
+values-again form l size small =
+    (λ j.
+    joined (
+    pair-again l small 0 (omega arith) j
+    ∷ pair-again l small 2 (omega arith) j
+    ∷ pair-again l small 4 (omega arith) j
+    ∷ pair-again l small 6 (omega arith) j
+    ∷ part-listed 1 l 8 (omega arith) j
+    ∷ []
+    ))
+    ∙ parts-joined l 0 (2 ∷ 2 ∷ 2 ∷ 2 ∷ 1 ∷ [])
+    ∙ take-all 9 l (omega arith)

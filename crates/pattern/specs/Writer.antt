@@ -1,13 +1,15 @@
 -- Definitions that must be believed: writing a pattern file (document 01, "Pattern file, form 1" and "Turned back, by place").
-use Prim.Native.Nat.{ℕ}
+use Prim.Native.Nat.{ℕ, _+_, _*_}
 use mathlib.Core.Bool.{not}
 use mathlib.Core.List.{List, [], _∷_, _++_}
 use lib.ListN.{length, drop}
 use lib.Dec.{ltb, eqb}
-use Rattle.pattern.specs.Refusals.{Condition, _gives_, unless}
-use Rattle.pattern.specs.Values.{inRange, formOf}
-use Rattle.pattern.specs.Frame.{high, low, recordOf}
+use Rattle.slices.specs.Slices.{joined}
+use Rattle.common.specs.Refusals.{Condition, _gives_, unless}
+use Rattle.pattern.specs.Values.{inRange, formOf, partitionSize, valuesBytes}
+use Rattle.pattern.specs.Frame.{frameSize, recordOf}
 use Rattle.pattern.specs.Image.{trim}
+use Rattle.pattern.specs.Reader.{versionSize}
 use Rattle.pattern.specs.declared.values.Values.{Values}
 use Rattle.pattern.specs.declared.writer.Written.{Written}
 use Rattle.pattern.specs.declared.writer.Written.the-variants.{Length, Failed}
@@ -16,20 +18,21 @@ use Rattle.pattern.specs.declared.writer.Written.the-variants.{Length, F
 abbrev pub versionBody : Values → List ℕ
 versionBody v = formOf v ∷ 1 ∷ []
 
--- the body of `PB`
-abbrev pub partitionBody : Values → List ℕ
-partitionBody v =
-    high (v .window) ∷ low (v .window) ∷ high (v .input) ∷ low (v .input) ∷ high (v .output) ∷ low (v .output) ∷ high (v .start) ∷ low (v .start)
-    ∷ v .quantum ∷ []
-
 -- the five records, with these bodies of `PC` and `PI`
 unfoldable pub recordsOf : Values → List ℕ → List ℕ → List ℕ
 recordsOf v code input =
+    joined (
     recordOf 0x56 (versionBody v)
-    ++ (recordOf 0x42 (partitionBody v)
-    ++ (recordOf 0x43 code
-    ++ (recordOf 0x49 input
-    ++ recordOf 0x45 [])))
+    ∷ recordOf 0x42 (valuesBytes v)
+    ∷ recordOf 0x43 code
+    ∷ recordOf 0x49 input
+    ∷ recordOf 0x45 []
+    ∷ []
+    )
+
+-- how much of a file of that form is not in these two bodies: the length of the smallest file
+abbrev pub smallestSize : ℕ → ℕ
+smallestSize form = 5 * frameSize + versionSize + partitionSize form
 
 -- the file of the pattern of those values, window and first input
 abbrev pub fileOf : Values → List ℕ → List ℕ → List ℕ
@@ -39,8 +42,8 @@ fileOf v image input = recordsOf v (trim image) input
 unfoldable pub writeConditions : Values → List ℕ → List ℕ → ℕ → List Condition
 writeConditions v image input room =
     not (inRange v) gives 9
-    ∷ not (eqb (length image) (v .window)) gives 9
-    ∷ ltb (v .input) (length input) gives 11
+    ∷ not (eqb (length image) (v .layout .window)) gives 9
+    ∷ ltb (v .layout .input) (length input) gives 11
     ∷ ltb room (length (fileOf v image input)) gives 16
     ∷ []
 

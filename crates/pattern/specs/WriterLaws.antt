@@ -7,22 +7,23 @@ use native.Mathlib.Omega.{arith}
 use lib.ListN.{length, length-append}
 use lib.Dec.{eqb}
 use borrow.Author.Tests.{eqb-true, ltb-false, not-false, eq-eqb, le-ltb}
-use Rattle.pattern.specs.Values.{inRange}
-use Rattle.pattern.specs.Writer.{recordsOf, fileOf, writeConditions, writeOf}
-use Rattle.pattern.specs.RefusalLaws.{none-unless, unless-none}
+use Rattle.pattern.specs.Values.{inRange, formOf}
+use Rattle.pattern.specs.Writer.{recordsOf, smallestSize, fileOf, writeConditions, writeOf}
+use Rattle.common.specs.RefusalLaws.{none-unless, unless-none}
 use Rattle.pattern.specs.FrameLaws.{record-length}
+use Rattle.pattern.specs.ValuesLaws.{values-size}
 use Rattle.pattern.specs.declared.values.Values.{Values}
 use Rattle.pattern.specs.declared.writer.Written.the-variants.{Length, Failed}
 
-pub file-length : (v : Values) (code input : List ℕ) → length (recordsOf v code input) ≡ 31 + length code + length input
+pub file-length : (v : Values) (code input : List ℕ) → length (recordsOf v code input) ≡ smallestSize (formOf v) + length code + length input
 unfolding recordsOf
-file-length v code input = simp (length-append, record-length) (omega arith)
+file-length v code input = simp (length-append, record-length, values-size) (omega arith)
 
 -- a writing is accepted exactly if the values are in range, the image fills the window, the input fits, and so does the file
 pub record WrittenIs (v : Values) (image input : List ℕ) (room : ℕ) : Type 0 where
   pub range : inRange v ≡ true
-  pub whole : length image ≡ v .window
-  pub few : length input ≤ v .input
+  pub whole : length image ≡ v .layout .window
+  pub few : length input ≤ v .layout .input
   pub fits : length (fileOf v image input) ≤ room
 
 module _ (v : Values) (image input : List ℕ) (room : ℕ) where
@@ -30,7 +31,7 @@ module _ (v : Values) (image input : List ℕ) (room : ℕ) where
   unfolding writeOf writeConditions
   written-accepted w =
       none-unless Failed (writeConditions v image input room) _
-      (simp (w .range), (simp (eq-eqb (length image) (v .window) (w .whole)), (le-ltb (v .input) (length input) (w .few), (le-ltb room (length (fileOf v image input)) (w .fits), tt))))
+      (simp (w .range), (simp (eq-eqb (length image) (v .layout .window) (w .whole)), (le-ltb (v .layout .input) (length input) (w .few), (le-ltb room (length (fileOf v image input)) (w .fits), tt))))
 
   failed-length : {n : ℕ} (k : ℕ) → Failed k ≡ Length n → ⊥
   failed-length k h = let z : _≡_ {A = ℕ} 0 1 = cc in omega arith
@@ -41,8 +42,8 @@ module _ (v : Values) (image input : List ℕ) (room : ℕ) where
       let p = unless-none Failed (writeConditions v image input room) _ failed-length h in (
         record {
           range = not-false (inRange v) (p .0 .0);
-          whole = eqb-true (length image) (v .window) (not-false (eqb (length image) (v .window)) (p .0 .1 .0));
-          few = ltb-false (v .input) (length input) (p .0 .1 .1 .0);
+          whole = eqb-true (length image) (v .layout .window) (not-false (eqb (length image) (v .layout .window)) (p .0 .1 .0));
+          few = ltb-false (v .layout .input) (length input) (p .0 .1 .1 .0);
           fits = ltb-false room (length (fileOf v image input)) (p .0 .1 .1 .1 .0);
         },
         length-same (p .1),

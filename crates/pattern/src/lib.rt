@@ -8,10 +8,14 @@ mod writer;
 
 pub use reader::Answer;
 pub use reader::code_body;
+pub use reader::code_place;
 pub use reader::input_body;
+pub use reader::input_place;
 pub use reader::read;
 pub use reader::refusal;
 pub use values::Values;
+pub use values::values_at;
+pub use values::values_bytes;
 pub use writer::Written;
 pub use writer::failure;
 pub use writer::write;

@@ -1,22 +1,26 @@
 // Reading a pattern file: each record's frame, then its body, then the next record.
 use crate::frame::BOARD;
 use crate::frame::FORM;
-use crate::frame::PARTITION_SIZE;
+use crate::frame::FRAME_SIZE;
+use crate::frame::VERSION_SIZE;
 use crate::frame::after_record;
 use crate::frame::body;
 use crate::frame::body_length;
 use crate::frame::is_fixed;
 use crate::frame::is_framed;
+use crate::frame::record_size;
 use crate::image::ends_in_zero;
 use crate::values::Values;
 use crate::values::in_range;
+use crate::values::values_at;
+use common::Address;
+use common::Layout;
 use slices::byte;
 use slices::front;
-use slices::word;
 ghost use mathlib.Core.Path.{_≡_};
-ghost use Rattle.pattern.specs.Refusals.{unless};
+ghost use Rattle.common.specs.Refusals.{unless};
 ghost use Rattle.pattern.specs.Frame.{bodyOf};
-ghost use Rattle.pattern.specs.Reader.{noValues, valuesIn, versionConditions, partitionConditions, codeConditions, inputConditions, endConditions, readOf, refusalOf, ifAccepted, codeOf, inputOf};
+ghost use Rattle.pattern.specs.Reader.{noValues, valuesIn, versionConditions, partitionConditions, codeConditions, inputConditions, endConditions, readOf, refusalOf, ifAccepted, codeOf, inputOf, codePlace, inputPlace};
 
 // The values, or the number of the refusal.
 pub enum Answer {
@@ -38,45 +42,36 @@ pub fn refusal(answer: Answer) -> u8
 fn version(s: &[u8]) -> Answer
     ensures { λ r. ⌜ r ≡ unless Answer.Refused (versionConditions (now (s .entry))) (Answer.Accepted noValues) ⌝ }
 {
-    if !is_fixed(s, b'V', 2) {
+    if !is_fixed(s, b'V', VERSION_SIZE) {
         return Answer::Refused(6);
     }
-    if byte(s, 4) != FORM {
+    let named = body(s);
+    if byte(named, 0) != FORM {
         return Answer::Refused(7);
     }
-    if byte(s, 5) != BOARD {
+    if byte(named, 1) != BOARD {
         return Answer::Refused(8);
     }
-    Answer::Accepted(Values {
+    let layout = Layout {
         window: 0,
         input: 0,
         output: 0,
-        start: 0,
+    };
+    Answer::Accepted(Values {
+        layout,
+        start: Address(0),
         quantum: 0,
     })
-}
-
-// The values in the body of `PB` at the front of `s`.
-fn values_in(s: &[u8]) -> Values
-    ensures { λ r. ⌜ r ≡ valuesIn 1 (now (s .entry)) ⌝ }
-{
-    Values {
-        window: word(s, 4),
-        input: word(s, 6),
-        output: word(s, 8),
-        start: word(s, 10),
-        quantum: byte(s, 12),
-    }
 }
 
 // The record `PB` at the front of `s`.
 fn partition(s: &[u8]) -> Answer
     ensures { λ r. ⌜ r ≡ unless Answer.Refused (partitionConditions 1 (now (s .entry))) (Answer.Accepted (valuesIn 1 (now (s .entry)))) ⌝ }
 {
-    if !is_fixed(s, b'B', PARTITION_SIZE) {
+    if !is_fixed(s, b'B', Values::SIZE) {
         return Answer::Refused(6);
     }
-    let values = values_in(s);
+    let values = values_at(body(s));
     if !in_range(values) {
         return Answer::Refused(9);
     }
@@ -90,7 +85,8 @@ fn code(s: &[u8], values: Values) -> Answer
     if !is_framed(s, b'C') {
         return Answer::Refused(6);
     }
-    if values.window < body_length(s) {
+    let layout = values.layout;
+    if layout.window < body_length(s) {
         return Answer::Refused(10);
     }
     if ends_in_zero(body(s)) {
@@ -106,7 +102,8 @@ fn input(s: &[u8], values: Values) -> Answer
     if !is_framed(s, b'I') {
         return Answer::Refused(6);
     }
-    if values.input < body_length(s) {
+    let layout = values.layout;
+    if layout.input < body_length(s) {
         return Answer::Refused(11);
     }
     Answer::Accepted(values)
@@ -119,7 +116,7 @@ fn end(s: &[u8], values: Values) -> Answer
     if !is_fixed(s, b'E', 0) {
         return Answer::Refused(6);
     }
-    if 4 < s.len() {
+    if FRAME_SIZE < s.len() {
         return Answer::Refused(6);
     }
     Answer::Accepted(values)
@@ -148,7 +145,11 @@ pub fn read(file: &[u8]) -> Answer
     let Answer::Accepted(_) = fourth else {
         return fourth;
     };
-    end(after_record(from_input), values)
+    let fifth = end(after_record(from_input), values);
+    let Answer::Accepted(_) = fifth else {
+        return fifth;
+    };
+    Answer::Accepted(values)
 }
 
 // The body of the record at the front of `from`, which is a part of `file`; empty if the file is refused.
@@ -174,4 +175,22 @@ pub fn input_body(file: &[u8]) -> &[u8]
     ensures { λ r. ⌜ now r ≡ inputOf (now (file .entry)) ⌝ }
 {
     accepted_body(file, after_record(after_record(after_record(file))))
+}
+
+// Where the body of `PC` starts in the file, if the file is accepted.
+pub fn code_place(file: &[u8]) -> usize
+    ensures { λ n. ⌜ n ≡ codePlace (now (file .entry)) ⌝ }
+{
+    record_size(file) + record_size(after_record(file)) + FRAME_SIZE
+}
+
+// Where the body of `PI` starts in the file, if the file is accepted.
+pub fn input_place(file: &[u8]) -> usize
+    ensures { λ n. ⌜ n ≡ inputPlace (now (file .entry)) ⌝ }
+{
+    let from_partition = after_record(file);
+    record_size(file)
+        + record_size(from_partition)
+        + record_size(after_record(from_partition))
+        + FRAME_SIZE
 }

@@ -1,18 +1,22 @@
 // Writing a pattern file to the front of a lent buffer.
 use crate::frame::BOARD;
 use crate::frame::FORM;
+use crate::frame::FRAME_SIZE;
+use crate::frame::VERSION_SIZE;
 use crate::frame::put_record;
 use crate::image::trimmed;
 use crate::values::Values;
 use crate::values::in_range;
+use crate::values::values_bytes;
 ghost use mathlib.Core.Path.{_≡_};
-ghost use Prim.Native.Nat.{_+_, _≤_};
+ghost use Prim.Native.Nat.{_+_, _≤_, _<_};
 ghost use lib.ListN.{length};
 ghost use Rattle.slices.specs.Slices.{copied};
-ghost use Rattle.pattern.specs.Writer.{partitionBody, recordsOf, writeOf, bufferOf, failureOf};
+ghost use Rattle.pattern.specs.Values.{formOf};
+ghost use Rattle.pattern.specs.Writer.{smallestSize, recordsOf, writeOf, bufferOf, failureOf};
 
 // The length of the smallest file: all but the bodies of `PC` and `PI`.
-const SMALLEST: usize = 31;
+const SMALLEST_SIZE: usize = 5 * FRAME_SIZE + VERSION_SIZE + Values::SIZE;
 
 // The length of the written file, or the number of the refusal.
 pub enum Written {
@@ -30,30 +34,15 @@ pub fn failure(written: Written) -> u8
     }
 }
 
-// The body of `PB`.
-fn partition_body(v: Values) -> [u8; 9]
-    ensures { λ r. ⌜ r ≡ partitionBody v ⌝ }
-{
-    [
-        (v.window / 256 % 256) as u8,
-        (v.window % 256) as u8,
-        (v.input / 256 % 256) as u8,
-        (v.input % 256) as u8,
-        (v.output / 256 % 256) as u8,
-        (v.output % 256) as u8,
-        (v.start / 256 % 256) as u8,
-        (v.start % 256) as u8,
-        v.quantum,
-    ]
-}
-
 // Writes the five records to the front of `buffer`.
 fn put_records(v: Values, code: &[u8], input: &[u8], buffer: &mut [u8])
-    requires { ⌜ 31 + length (now code) + length (now input) ≤ length (now buffer) ⌝ }
+    requires { ⌜ length (now code) < 65536 ⌝ }
+    requires { ⌜ length (now input) < 65536 ⌝ }
+    requires { ⌜ smallestSize (formOf v) + length (now code) + length (now input) ≤ length (now buffer) ⌝ }
     ensures { λ _. ⌜ now (buffer .exit) ≡ copied (now (buffer .entry)) 0 (recordsOf v (now (code .entry)) (now (input .entry))) ⌝ }
 {
     let version = [FORM, BOARD];
-    let partition = partition_body(v);
+    let partition = values_bytes(v);
     let from_partition = put_record(b'V', &version, buffer, 0);
     let from_code = put_record(b'B', &partition, buffer, from_partition);
     let from_input = put_record(b'C', code, buffer, from_code);
@@ -68,14 +57,15 @@ pub fn write(values: Values, image: &[u8], input: &[u8], buffer: &mut [u8]) -> W
     if !in_range(values) {
         return Written::Failed(9);
     }
-    if image.len() != values.window as usize {
+    let layout = values.layout;
+    if image.len() != layout.window as usize {
         return Written::Failed(9);
     }
-    if (values.input as usize) < input.len() {
+    if (layout.input as usize) < input.len() {
         return Written::Failed(11);
     }
     let code = trimmed(image);
-    let total = SMALLEST + code.len() + input.len();
+    let total = SMALLEST_SIZE + code.len() + input.len();
     if buffer.len() < total {
         return Written::Failed(16);
     }

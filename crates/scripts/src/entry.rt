@@ -1,18 +1,19 @@
 // The parts of an entry; make_data.py gives the layout.
 use slices::byte;
+use slices::pair;
 use slices::part;
-use slices::word;
+use slices::quad;
 
 pub(crate) fn kind(entry: &[u8]) -> u16 {
-    word(entry, 0)
+    pair(entry, 0)
 }
 
 pub(crate) fn line(entry: &[u8]) -> u16 {
-    word(entry, 2)
+    pair(entry, 2)
 }
 
 pub(crate) fn slot(entry: &[u8]) -> usize {
-    word(entry, 4) as usize
+    pair(entry, 4) as usize
 }
 
 // The number: a location, the length of a memory or a buffer, a count of rounds, a field's value or a check sum; by width.
@@ -21,11 +22,11 @@ pub(crate) fn value8(entry: &[u8]) -> u8 {
 }
 
 pub(crate) fn value16(entry: &[u8]) -> u16 {
-    word(entry, 10)
+    pair(entry, 10)
 }
 
 pub(crate) fn value32(entry: &[u8]) -> u32 {
-    word(entry, 8) as u32 * 65536 + word(entry, 10) as u32
+    quad(entry, 8)
 }
 
 pub(crate) fn number(entry: &[u8]) -> usize {
@@ -33,7 +34,7 @@ pub(crate) fn number(entry: &[u8]) -> usize {
 }
 
 pub(crate) fn length(entry: &[u8]) -> u16 {
-    word(entry, 14)
+    pair(entry, 14)
 }
 
 pub(crate) fn bytes(entry: &[u8]) -> &[u8] {

@@ -3,42 +3,46 @@ use crate::entry::slot;
 use crate::entry::value8;
 use crate::entry::value16;
 use crate::entry::value32;
+use common::Layout;
+use common::Location;
 use cpu::Cpu;
 use cpu::State;
+use slices::pair;
 use slices::rest;
-use slices::word;
 use supervisor::Partition;
 use supervisor::Report;
 use supervisor::Slot;
 use supervisor::Table;
 
 fn same_registers(r: [u8; 7], want: &[u8]) -> bool {
-    (r[0] as u16 == word(want, 0))
-        & (r[1] as u16 == word(want, 2))
-        & (r[2] as u16 == word(want, 4))
-        & (r[3] as u16 == word(want, 6))
-        & (r[4] as u16 == word(want, 8))
-        & (r[5] as u16 == word(want, 10))
-        & (r[6] as u16 == word(want, 12))
+    (r[0] as u16 == pair(want, 0))
+        & (r[1] as u16 == pair(want, 2))
+        & (r[2] as u16 == pair(want, 4))
+        & (r[3] as u16 == pair(want, 6))
+        & (r[4] as u16 == pair(want, 8))
+        & (r[5] as u16 == pair(want, 10))
+        & (r[6] as u16 == pair(want, 12))
 }
 
 fn same_returns(r: [u16; 8], want: &[u8]) -> bool {
-    (r[0] == word(want, 0))
-        & (r[1] == word(want, 2))
-        & (r[2] == word(want, 4))
-        & (r[3] == word(want, 6))
-        & (r[4] == word(want, 8))
-        & (r[5] == word(want, 10))
-        & (r[6] == word(want, 12))
-        & (r[7] == word(want, 14))
+    (r[0] == pair(want, 0))
+        & (r[1] == pair(want, 2))
+        & (r[2] == pair(want, 4))
+        & (r[3] == pair(want, 6))
+        & (r[4] == pair(want, 8))
+        & (r[5] == pair(want, 10))
+        & (r[6] == pair(want, 12))
+        & (r[7] == pair(want, 14))
 }
 
 fn same_partition(p: Partition, want: &[u8]) -> bool {
-    (p.base == word(want, 0) as u32)
-        & (p.window == word(want, 2))
-        & (p.input == word(want, 4))
-        & (p.output == word(want, 6))
-        & (p.quantum as u16 == word(want, 8))
+    let base = p.base;
+    let layout = p.layout;
+    (base.0 == pair(want, 0) as u32)
+        & (layout.window == pair(want, 2))
+        & (layout.input == pair(want, 4))
+        & (layout.output == pair(want, 6))
+        & (p.quantum as u16 == pair(want, 8))
 }
 
 fn same_slot(s: Slot, want: &[u8]) -> bool {
@@ -48,15 +52,15 @@ fn same_slot(s: Slot, want: &[u8]) -> bool {
     let registers = cpu.registers;
     let returns = cpu.returns;
     same_partition(partition, want)
-        & (state.status as u16 == word(want, 10))
-        & (cpu.counter == word(want, 12))
-        & (cpu.psu as u16 == word(want, 14))
-        & (cpu.psl as u16 == word(want, 16))
+        & (state.status as u16 == pair(want, 10))
+        & (cpu.counter == pair(want, 12))
+        & (cpu.psu as u16 == pair(want, 14))
+        & (cpu.psl as u16 == pair(want, 16))
         & same_registers(registers, rest(want, 18))
         & same_returns(returns, rest(want, 32))
-        & (state.filled == word(want, 48))
-        & (state.read == word(want, 50))
-        & (state.written == word(want, 52))
+        & (state.filled == pair(want, 48))
+        & (state.read == pair(want, 50))
+        & (state.written == pair(want, 52))
 }
 
 pub(crate) fn same_slots(t: Table, want: &[u8]) -> bool {
@@ -73,19 +77,16 @@ pub(crate) fn same_slots(t: Table, want: &[u8]) -> bool {
 
 pub(crate) fn same_report(r: Report, want: &[u8]) -> bool {
     let registers = r.registers;
-    (r.status as u16 == word(want, 0))
-        & (r.counter == word(want, 2))
-        & (r.psu as u16 == word(want, 4))
-        & (r.psl as u16 == word(want, 6))
+    (r.status as u16 == pair(want, 0))
+        & (r.counter == pair(want, 2))
+        & (r.psu as u16 == pair(want, 4))
+        & (r.psl as u16 == pair(want, 6))
         & same_registers(registers, rest(want, 8))
 }
 
-fn poked_partition(p: Partition, field: u16, entry: &[u8]) -> Partition {
-    let mut next = p;
+fn poked_layout(l: Layout, field: u16, entry: &[u8]) -> Layout {
+    let mut next = l;
     match field {
-        0 => {
-            next.base = value32(entry);
-        }
         1 => {
             next.window = value16(entry);
         }
@@ -95,10 +96,20 @@ fn poked_partition(p: Partition, field: u16, entry: &[u8]) -> Partition {
         3 => {
             next.output = value16(entry);
         }
-        4 => {
-            next.quantum = value8(entry);
-        }
         _ => {}
+    }
+    next
+}
+
+fn poked_partition(p: Partition, field: u16, entry: &[u8]) -> Partition {
+    let mut next = p;
+    next.layout = poked_layout(p.layout, field, entry);
+    if field == 0 {
+        let base = Location(value32(entry));
+        next.base = base;
+    }
+    if field == 4 {
+        next.quantum = value8(entry);
     }
     next
 }
@@ -145,32 +156,29 @@ fn poked_cpu(c: Cpu, field: u16, entry: &[u8]) -> Cpu {
 }
 
 fn poked_state(s: State, field: u16, entry: &[u8]) -> State {
-    let old = s.cpu;
-    let cpu = poked_cpu(old, field, entry);
-    let status = if field == 5 { value8(entry) } else { s.status };
-    let filled = if field == 24 {
-        value16(entry)
-    } else {
-        s.filled
-    };
-    let read = if field == 25 { value16(entry) } else { s.read };
-    let written = if field == 26 {
-        value16(entry)
-    } else {
-        s.written
-    };
-    State {
-        cpu,
-        status,
-        filled,
-        read,
-        written,
+    let mut next = s;
+    next.cpu = poked_cpu(s.cpu, field, entry);
+    match field {
+        5 => {
+            next.status = value8(entry);
+        }
+        24 => {
+            next.filled = value16(entry);
+        }
+        25 => {
+            next.read = value16(entry);
+        }
+        26 => {
+            next.written = value16(entry);
+        }
+        _ => {}
     }
+    next
 }
 
 // The table with the entry's field set; the slot's number is below 8, but for the length of the memory.
 pub(crate) fn poked(t: Table, entry: &[u8]) -> Table {
-    let field = word(entry, 12);
+    let field = pair(entry, 12);
     let k = slot(entry);
     let mut next = t;
     if k < 8 {

@@ -16,11 +16,12 @@ use crate::entry::value32;
 use crate::fields::poked;
 use crate::fields::same_report;
 use crate::fields::same_slots;
+use common::Location;
 use libc::STDOUT_FILENO;
 use slices::fill;
 use slices::front;
+use slices::pair;
 use slices::rest;
-use slices::word;
 use std::num::wrapping_add_u64;
 use supervisor::Answer;
 use supervisor::Table;
@@ -66,7 +67,7 @@ fn unanswered(world: World, same: bool) -> Done {
 
 // The refusal that the entry wants.
 fn wanted(entry: &[u8]) -> u16 {
-    word(entry, 6)
+    pair(entry, 6)
 }
 
 fn answered(world: World, answer: Answer, entry: &[u8]) -> Done {
@@ -82,7 +83,7 @@ fn answered(world: World, answer: Answer, entry: &[u8]) -> Done {
 // Whether a drain answered as the entry wants, and left its buffer so.
 fn same_drained(refusal: u8, count: usize, buffer: &[u8], entry: &[u8]) -> bool {
     (refusal as u16 == wanted(entry))
-        & (count == word(entry, 12) as usize)
+        & (count == pair(entry, 12) as usize)
         & check::same(front(buffer, number(entry)), bytes(entry))
 }
 
@@ -155,7 +156,13 @@ fn called(world: World, memory: &mut [u8], entry: &[u8]) -> Done {
     match kind(entry) {
         1 => answered(world, Table::new(number(entry)), entry),
         5 => {
-            let answer = supervisor::load(table, memory, slot(entry), number(entry), bytes(entry));
+            let answer = supervisor::load(
+                table,
+                memory,
+                slot(entry),
+                Location(value32(entry)),
+                bytes(entry),
+            );
             answered(world, answer, entry)
         }
         6 => {

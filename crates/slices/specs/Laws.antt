@@ -1,14 +1,16 @@
 -- Laws that the checker has shown: what a copy or a fill keeps, and what it puts in place. Callers cite these, and not the definitions' text.
 use Prim.Native.Nat.{ℕ, zero, suc, _+_, _-_, _≤_, _<_}
-use mathlib.Core.Bool.{Bool, true, false, cond}
+use mathlib.Core.Bool.{Bool, true, false}
 use mathlib.Core.Path.{_≡_, refl, sym, ap, subst⁻¹, _∙_}
 use mathlib.Core.List.{List, [], _∷_, _++_, append-assoc, append-nil}
 use native.Mathlib.Nat.{add-assoc, add-zero, zero-add, suc-add}
+use native.Mathlib.Decide.{decLt}
 use native.Mathlib.Omega.{arith}
-use lib.ListN.{length, getD, take, drop, length-append, length-take, length-drop, drop-of-length-le}
-use lib.Seq.{take-at, drop-at, take-nil, drop-nil, drop-drop, take-take, take-append-le, take-append-seam, getD-take, getD-drop, length-take-le}
+use lib.ListN.{length, getD, take, drop, length-append, length-take, length-drop, take-append-drop, drop-of-length-le, List·getD-eq-default}
+use lib.Seq.{take-at, drop-at, take-nil, drop-nil, drop-drop, take-add, take-take, take-append-le, take-append-seam, getD-take, getD-drop, length-take-le}
 use lib.Dec.{leb}
 use borrow.Author.Tests.{leb-true, le-leb, lt-leb}
+use Rattle.common.specs.Choice.{if_then_else_}
 use Rattle.slices.specs.Slices.{Bytes, partOf, copied}
 
 -- a part is the end of a front
@@ -21,27 +23,37 @@ part-front (x ∷ xs) (suc at) n = part-front xs at n ∙ sym (ap (λ (k : ℕ).
 pub part-length : (s : List ℕ) (at n : ℕ) → at + n ≤ length s → length (partOf s at n) ≡ n
 part-length s at n h = length-take-le n (drop at s) (simp length-drop (omega arith))
 
--- what is left of bytes is bytes
+-- a front and a rest of bytes are bytes
+pub bytes-take : (n : ℕ) (s : List ℕ) → Bytes s → Bytes (take n s)
+unfolding Bytes
+bytes-take n s h i = go (decLt i n)
+  where
+    go : Dec (i < n) → getD (take n s) i 0 < 256
+    go (yes q) = subst⁻¹ (λ (x : ℕ). x < 256) (getD-take n s i 0 q) (h i)
+    go (no q) =
+        let e : getD (take n s) i 0 ≡ 0 = List·getD-eq-default (take n s) 0 {n = i} (simp length-take (omega arith)) in
+        omega arith
+
 pub bytes-drop : (n : ℕ) (s : List ℕ) → Bytes s → Bytes (drop n s)
 unfolding Bytes
 bytes-drop n s h i = subst⁻¹ (λ (x : ℕ). x < 256) (getD-drop n s i 0) (h (n + i))
 
 -- with room the source stands in the list, and without it the list is left
 pub copied-whole : (d : List ℕ) (at : ℕ) (s : List ℕ) → at + length s ≤ length d → copied d at s ≡ take at d ++ s ++ drop (at + length s) d
-unfolding copied
+unfolding copied if_then_else_
 copied-whole d at s h = simp (le-leb (at + length s) (length d) h)
 
 pub copied-left : (d : List ℕ) (at : ℕ) (s : List ℕ) → length d < at + length s → copied d at s ≡ d
-unfolding copied
+unfolding copied if_then_else_
 copied-left d at s h = simp (lt-leb (at + length s) (length d) h)
 
 -- what holds in both of these cases holds of a copy
 copied-either : (P : List ℕ → Type 0) (d : List ℕ) (at : ℕ) (s : List ℕ)
     → (at + length s ≤ length d → P (take at d ++ s ++ drop (at + length s) d)) → P d → P (copied d at s)
-unfolding copied
+unfolding copied if_then_else_
 copied-either P d at s whole left = go (leb (at + length s) (length d)) refl
   where
-    go : (b : Bool) → leb (at + length s) (length d) ≡ b → P (cond b (take at d ++ s ++ drop (at + length s) d) d)
+    go : (b : Bool) → leb (at + length s) (length d) ≡ b → P (if b then take at d ++ s ++ drop (at + length s) d else d)
     go true e = whole (leb-true (at + length s) (length d) e)
     go false e = left
 
@@ -135,3 +147,19 @@ copied-front d s h = copied-whole d 0 s (omega arith) ∙ rw zero-add
 pub copied-all : (d s : List ℕ) → length s ≡ length d → copied d 0 s ≡ s
 copied-all d s h =
     copied-front d s (omega arith) ∙ ap (λ (l : List ℕ). s ++ l) (drop-of-length-le d {i = length s} (omega arith)) ∙ append-nil s
+
+-- nothing copied changes nothing
+pub copied-none : (d : List ℕ) (at : ℕ) → copied d at [] ≡ d
+copied-none d at =
+    copied-either (λ (l : List ℕ). l ≡ d) d at []
+    (λ h. rw (append-nil (take at d), add-zero) (take-append-drop at d))
+    refl
+
+-- and so does a part copied to where it stands
+pub copy-self : (d : List ℕ) (at n : ℕ) → at + n ≤ length d → copied d at (partOf d at n) ≡ d
+copy-self d at n h =
+    let e : length (partOf d at n) ≡ n = part-length d at n h in
+    copied-whole d at (partOf d at n) (omega arith)
+    ∙ ap (λ (k : ℕ). take at d ++ partOf d at n ++ drop (at + k) d) e
+    ∙ ap (λ (x : List ℕ). x ++ drop (at + n) d) (sym (take-add at n d))
+    ∙ take-append-drop (at + n) d

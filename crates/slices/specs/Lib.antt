@@ -1,3 +1,7 @@
--- The files of this folder: `Slices` has definitions that must be believed, `Laws` has laws that the checker has shown.
+-- Definitions that must be believed.
 pub mod Slices
+pub mod Numbers
+-- Laws that the checker has shown.
 pub mod Laws
+pub mod PieceLaws
+pub mod NumberLaws

@@ -1,17 +1,13 @@
--- Definitions that must be believed: a number in a list of bytes, a part of the list, and what a copy or a fill leaves.
-use Prim.Native.Nat.{ℕ, _+_, _*_, _<_}
-use mathlib.Core.Bool.{cond}
-use mathlib.Core.List.{List, _++_}
+-- Definitions that must be believed: a part of a list of bytes, what a copy or a fill leaves, and a list made of pieces or of elements.
+use Prim.Native.Nat.{ℕ, zero, suc, _+_, _<_}
+use mathlib.Core.List.{List, [], _∷_, _++_}
 use lib.ListN.{length, getD, take, drop, replicate}
 use lib.Dec.{leb}
+use Rattle.common.specs.Choice.{if_then_else_}
 
 -- each element is a byte, as in every slice of bytes
 unfoldable pub Bytes : List ℕ → Type 0
 Bytes s = (i : ℕ) → getD s i 0 < 256
-
--- the two-byte number of s at a place, high byte first
-abbrev pub wordAt : List ℕ → ℕ → ℕ
-wordAt s at = getD s at 0 * 256 + getD s (at + 1) 0
 
 -- the n bytes of s from at on, or as many as there are
 abbrev pub partOf : List ℕ → ℕ → ℕ → List ℕ
@@ -19,8 +15,18 @@ partOf s at n = take n (drop at s)
 
 -- d with s in place of its bytes from at on; d itself where s would pass its end
 unfoldable pub copied : List ℕ → ℕ → List ℕ → List ℕ
-copied d at s = cond (leb (at + length s) (length d)) (take at d ++ s ++ drop (at + length s) d) d
+copied d at s = if leb (at + length s) (length d) then take at d ++ s ++ drop (at + length s) d else d
 
 -- the same, with n times the byte b for s
 abbrev pub filled : List ℕ → ℕ → ℕ → ℕ → List ℕ
 filled d at n b = copied d at (replicate n b)
+
+-- pieces, one behind the other
+abbrev pub joined : List (List ℕ) → List ℕ
+joined [] = []
+joined (piece ∷ pieces) = piece ++ joined pieces
+
+-- the list of the n elements f 0, f 1, ..
+abbrev pub listed : {A : Type 0} → ℕ → (ℕ → A) → List A
+listed zero f = []
+listed (suc n) f = f 0 ∷ listed n (λ i. f (suc i))

@@ -1,7 +1,9 @@
 // Small total functions on byte slices: places and counts past the end are answered, not refused.
 ghost use mathlib.Core.Path.{_≡_};
 ghost use lib.ListN.{getD, take, drop};
-ghost use Rattle.slices.specs.Slices.{wordAt, partOf, copied, filled};
+ghost use mathlib.Core.List.{[], _∷_};
+ghost use Rattle.slices.specs.Numbers.{pairAt, quadAt, pairOf, quadOf, pairsOf};
+ghost use Rattle.slices.specs.Slices.{partOf, copied, filled};
 
 // The byte at `at`, 0 from the end on.
 pub fn byte(s: &[u8], at: usize) -> u8
@@ -13,12 +15,22 @@ pub fn byte(s: &[u8], at: usize) -> u8
     0
 }
 
-// The two-byte number at `at`, high byte first; a byte from the end on counts as 0.
-pub fn word(s: &[u8], at: usize) -> u16
-    ensures { λ r. ⌜ r ≡ wordAt (now (s .entry)) at ⌝ }
+// The number of two bytes at `at`, high byte first; a byte from the end on counts as 0.
+pub fn pair(s: &[u8], at: usize) -> u16
+    ensures { λ n. ⌜ n ≡ pairAt (now (s .entry)) at ⌝ }
 {
     if at < s.len() {
         return (byte(s, at) as u16) * 256 + (byte(s, at + 1) as u16);
+    }
+    0
+}
+
+// The number of four bytes at `at`, likewise.
+pub fn quad(s: &[u8], at: usize) -> u32
+    ensures { λ n. ⌜ n ≡ quadAt (now (s .entry)) at ⌝ }
+{
+    if at < s.len() {
+        return (pair(s, at) as u32) * 65536 + (pair(s, at + 2) as u32);
     }
     0
 }
@@ -74,6 +86,52 @@ pub fn fill(target: &mut [u8], at: usize, n: usize, value: u8)
     let mut i = 0;
     while i < n {
         target[at + i] = value;
+        i += 1;
+    }
+}
+
+// Puts a byte at `at`, and nothing from the end on.
+pub fn put_byte(target: &mut [u8], at: usize, value: u8)
+    ensures { λ _. ⌜ now (target .exit) ≡ copied (now (target .entry)) at (value ∷ []) ⌝ }
+{
+    let bytes = [value];
+    copy(target, at, &bytes);
+}
+
+// Puts a number into the two bytes from `at` on, high byte first: both of them, or none where they would pass the end.
+pub fn put_pair(target: &mut [u8], at: usize, n: u16)
+    ensures { λ _. ⌜ now (target .exit) ≡ copied (now (target .entry)) at (pairOf n) ⌝ }
+{
+    let bytes = [(n / 256) as u8, (n % 256) as u8];
+    copy(target, at, &bytes);
+}
+
+// Puts a number into the four bytes from `at` on, likewise.
+pub fn put_quad(target: &mut [u8], at: usize, n: u32)
+    ensures { λ _. ⌜ now (target .exit) ≡ copied (now (target .entry)) at (quadOf n) ⌝ }
+{
+    let bytes = [
+        (n / 65536 / 256) as u8,
+        (n / 65536 % 256) as u8,
+        (n % 65536 / 256) as u8,
+        (n % 65536 % 256) as u8,
+    ];
+    copy(target, at, &bytes);
+}
+
+// Puts numbers one behind the other, each into two bytes: all of them, or none where they would pass the end.
+pub fn put_pairs(target: &mut [u8], at: usize, numbers: &[u16])
+    ensures { λ _. ⌜ now (target .exit) ≡ copied (now (target .entry)) at (pairsOf (now (numbers .entry))) ⌝ }
+{
+    if target.len() < at {
+        return;
+    }
+    if (target.len() - at) / 2 < numbers.len() {
+        return;
+    }
+    let mut i = 0;
+    while i < numbers.len() {
+        put_pair(target, at + 2 * i, numbers[i]);
         i += 1;
     }
 }

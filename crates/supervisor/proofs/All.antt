@@ -3,8 +3,8 @@ use Prim.Native.Nat.{ℕ, _+_, _≤_}
 use native.Mathlib.Nat.{le-antisymm}
 use native.Mathlib.Numerals.{add-one}
 use mathlib.Core.Path.{_≡_, refl, ap, _∙_}
-use mathlib.Core.Bool.{Bool, true, false, _&&_}
-use Rattle.supervisor.specs.Table.{allBelow}
+use mathlib.Core.Bool.{Bool, true, _&&_}
+use Rattle.common.specs.Tests.{allBelow}
 
 module _ (test : ℕ → Bool) where
   -- before the first turn
@@ -20,8 +20,3 @@ module _ (test : ℕ → Bool) where
   -- the last turn is done
   pub all-done : (n i : ℕ) {ok : Bool} → ok ≡ allBelow i test → i ≤ n → n ≤ i → ok ≡ allBelow n test
   all-done n i e l g = e ∙ ap (λ (k : ℕ). allBelow k test) (le-antisymm l g)
-
--- a test behind one that always holds
-pub and-true : (b : Bool) → (b && true) ≡ b
-and-true true = refl
-and-true false = refl

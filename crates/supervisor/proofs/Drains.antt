@@ -1,29 +1,29 @@
 -- The buffer after an accepted draining: the written bytes all lie in memory, and there is room for them.
-use Prim.Native.Nat.{ℕ, _+_, _≤_}
+use Prim.Native.Nat.{ℕ, _≤_}
 use mathlib.Core.List.{List}
 use mathlib.Core.Path.{_≡_, sym, _∙_}
 use native.Mathlib.Omega.{arith}
 use lib.ListN.{length}
+use Rattle.common.specs.Choice.{if_then_else_}
 use Rattle.slices.specs.Laws.{part-length, copied-front}
 use Rattle.slices.specs.Slices.{partOf, copied}
-use Rattle.supervisor.specs.Operations.{System, slotOf, drainRefusal, writtenBytes, drainedBuffer}
-use Rattle.supervisor.specs.Table.{endOf}
+use Rattle.supervisor.specs.Calls.{change, drain, refusal, drainedBuffer}
+use Rattle.supervisor.specs.Changes.{drain-accepted}
+use Rattle.supervisor.specs.Operations.{System, slotOf, writtenBytes}
+use Rattle.supervisor.specs.Table.{endOf, outputPlace}
 use Rattle.supervisor.specs.declared.table.Partition.{Partition}
-use Rattle.supervisor.proofs.Accepted.{drain-accepted, slot-inside, written-fits}
 
-pub drained-buffer : (x : System) (k : ℕ) (buffer : List ℕ) {n : ℕ} → n ≡ drainRefusal x k (length buffer) → n ≡ 0
+pub drained-buffer : (x : System) (k : ℕ) (buffer : List ℕ) {n : ℕ} → n ≡ refusal (change k (drain (length buffer))) x → n ≡ 0
     → copied buffer 0
-    (partOf (x .memory) (slotOf x k .partition .base + slotOf x k .partition .window + slotOf x k .partition .input) (slotOf x k .state .written))
+    (partOf (x .memory) (outputPlace (slotOf x k .partition) .0) (slotOf x k .state .written))
     ≡ drainedBuffer x k buffer
-unfolding writtenBytes drainedBuffer
+unfolding writtenBytes drainedBuffer if_then_else_
 drained-buffer x k buffer e none =
     let p : Partition = slotOf x k .partition in
     let n : ℕ = slotOf x k .state .written in
-    let z : drainRefusal x k (length buffer) ≡ 0 = sym e ∙ none in
+    let z : refusal (change k (drain (length buffer))) x ≡ 0 = sym e ∙ none in
     let h = drain-accepted x k (length buffer) e none in
-    let inside : endOf p ≤ x .table .size = slot-inside (x .table) k (h .0 .held) in
-    let fits : n ≤ p .output = written-fits (x .table) k (h .0 .held) in
-    let whole : length (partOf (x .memory) (p .base + p .window + p .input) n) ≡ n =
-    part-length (x .memory) (p .base + p .window + p .input) n (omega (arith, h .0 .size))
-    in
-    copied-front buffer (partOf (x .memory) (p .base + p .window + p .input) n) (omega (arith, h .1, whole)) ∙ rw (whole, z)
+    let inside : endOf p ≤ x .table .size = h .0 .held .loaded .partition .inside in
+    let fits : n ≤ p .layout .output = h .0 .held .loaded .state .written in
+    let whole : length (partOf (x .memory) (outputPlace p .0) n) ≡ n = part-length (x .memory) (outputPlace p .0) n (omega (arith, h .0 .good .fits)) in
+    copied-front buffer (partOf (x .memory) (outputPlace p .0) n) (omega (arith, h .1, whole)) ∙ rw (whole, z)

@@ -1,62 +1,19 @@
 -- Definitions that must be believed: lists of calls on one table and one memory, and demand 3 as a statement about them
 -- (document 01, "The lone 2650 of demand 3").
-use mathlib.Core.Bool.{Bool, cond, false, true, not, _&&_}
+use mathlib.Core.Bool.{Bool, false, true, not, _&&_}
 use mathlib.Core.List.{List, [], _∷_}
 use mathlib.Core.Logic.{_≢_}
 use mathlib.Core.Path.{_≡_}
 use Prim.Native.Nat.{ℕ, _+_, _*_, _<_}
-use lib.Dec.{eqb, ltb, leb}
+use lib.Dec.{ltb, leb}
 use lib.ListN.{getD, set}
-use Rattle.cpu.specs.Machine.{machineStep, times}
-use Rattle.supervisor.specs.Operations.{System, system, slotOf, loadRefusal, unloadRefusal, feedRefusal, drainRefusal, runRefusal, reportRefusal, afterLoad, afterUnload, afterFeed, afterDrain, afterRun}
+use Rattle.common.specs.Choice.{if_then_else_}
+use Rattle.common.specs.Repetition.{times}
+use Rattle.cpu.specs.Machine.{machineStep}
+use Rattle.supervisor.specs.Calls.{Call, change, run, query, refusal, accepted, afterCall}
+use Rattle.supervisor.specs.Operations.{System, system, slotOf}
 use Rattle.supervisor.specs.Table.{isEmpty, endOf, sound, machineIn}
 use Rattle.supervisor.specs.declared.table.Slot.{Slot}
-use Rattle.supervisor.specs.declared.table.Table.{Table}
-
--- a call that takes the table; `drain` is given the length of its buffer
-pub data Call : Type 0 where
-  load : (slot location : ℕ) (file : List ℕ) → Call
-  unload : (slot : ℕ) → Call
-  feed : (slot : ℕ) (bytes : List ℕ) → Call
-  drain : (slot room : ℕ) → Call
-  run : (count : ℕ) → Call
-  report : (slot : ℕ) → Call
-
--- the number that refuses a call, 0 if it is accepted
-unfoldable pub refusal : Call → System → ℕ
-refusal (load k location file) x = loadRefusal x k location file
-refusal (unload k) x = unloadRefusal x k
-refusal (feed k bytes) x = feedRefusal x k bytes
-refusal (drain k room) x = drainRefusal x k room
-refusal (run count) x = runRefusal x
-refusal (report k) x = reportRefusal (x .table) k
-
--- table and memory after an accepted call
-unfoldable pub effect : Call → System → System
-effect (load k location file) x = afterLoad x k location file
-effect (unload k) x = afterUnload x k
-effect (feed k bytes) x = afterFeed x k bytes
-effect (drain k room) x = afterDrain x k
-effect (run count) x = afterRun count x
-effect (report k) x = x
-
-abbrev pub accepted : Call → System → Bool
-accepted c x = eqb (refusal c x) 0
-
--- a refused call hands back the table that it was given, and changes no byte
-unfoldable pub afterCall : Call → System → System
-afterCall c x = cond (accepted c x) (effect c x) x
-
--- what a call answers and leaves, as one value: every contract of an operation is an equation of this
-pub record Outcome : Type 0 where
-  pub number : ℕ
-  pub after : System
-
-abbrev pub outcome : ℕ → Table → List ℕ → Outcome
-outcome n t memory = record { number = n; after = system t memory }
-
-unfoldable pub outcomeOf : Call → System → Outcome
-outcomeOf c x = record { number = refusal c x; after = afterCall c x }
 
 -- what happens to a table and its memory: a call, or one byte of the memory written from outside between two calls. A buffer that
 -- lies in the memory and is lent to `drain` is written from outside after it, byte by byte
@@ -73,13 +30,13 @@ afterAll [] x = x
 afterAll (e ∷ rest) x = afterAll rest (after e x)
 
 -- p: the rounds of the accepted runs
+unfoldable pub roundsOf : Call → ℕ
+roundsOf (change k c) = 0
+roundsOf (run n) = n
+roundsOf (query q) = 0
+
 unfoldable pub roundsIn : Event → System → ℕ
-roundsIn (call (load k location file)) x = 0
-roundsIn (call (unload k)) x = 0
-roundsIn (call (feed k bytes)) x = 0
-roundsIn (call (drain k room)) x = 0
-roundsIn (call (run count)) x = cond (accepted (run count) x) count 0
-roundsIn (call (report k)) x = 0
+roundsIn (call c) x = if accepted c x then roundsOf c else 0
 roundsIn (write i b) x = 0
 
 unfoldable pub rounds : List Event → System → ℕ
@@ -88,16 +45,13 @@ rounds (e ∷ rest) x = roundsIn e x + rounds rest (after e x)
 
 -- byte i lies in the partition of the slot
 unfoldable pub inPartition : Slot → ℕ → Bool
-inPartition s i = not (isEmpty s) && leb (s .partition .base) i && ltb i (endOf (s .partition))
+inPartition s i = not (isEmpty s) && leb (s .partition .base .0) i && ltb i (endOf (s .partition))
 
--- slot k is left alone: no load, unload, feed or drain is accepted at it, and its partition is not written from outside
+-- slot k is left alone: no change is accepted at it, and its partition is not written from outside
 unfoldable pub LeftAlone : ℕ → Event → System → Type 0
-LeftAlone k (call (load j location file)) x = j ≡ k → refusal (load j location file) x ≢ 0
-LeftAlone k (call (unload j)) x = j ≡ k → refusal (unload j) x ≢ 0
-LeftAlone k (call (feed j bytes)) x = j ≡ k → refusal (feed j bytes) x ≢ 0
-LeftAlone k (call (drain j room)) x = j ≡ k → refusal (drain j room) x ≢ 0
-LeftAlone k (call (run count)) x = Unit {0}
-LeftAlone k (call (report j)) x = Unit {0}
+LeftAlone k (call (change j c)) x = j ≡ k → refusal (change j c) x ≢ 0
+LeftAlone k (call (run n)) x = Unit {0}
+LeftAlone k (call (query q)) x = Unit {0}
 LeftAlone k (write i b) x = inPartition (slotOf x k) i ≡ false
 
 unfoldable pub LeftAloneAll : ℕ → List Event → System → Type 0
@@ -135,7 +89,7 @@ pub record Demand3 (x : System) (events : List Event) : Type 0 where
       (k : ℕ) → k < 8 → isEmpty (slotOf x k) ≡ false → LeftAloneAll k events x
       → machineIn (slotOf (afterAll events x) k) (afterAll events x .memory)
       ≡ times (rounds events x * slotOf x k .partition .quantum) machineStep (machineIn (slotOf x k) (x .memory))
-  -- its partition stays: base, capacities and quantum
+  -- its partition stays: base, layout and quantum
   pub partition :
       (k : ℕ) → k < 8 → isEmpty (slotOf x k) ≡ false → LeftAloneAll k events x → slotOf (afterAll events x) k .partition ≡ slotOf x k .partition
   -- a byte in no partition all through is as it was

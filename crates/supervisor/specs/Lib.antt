@@ -1,11 +1,14 @@
 -- Definitions that must be believed, in reading order.
 pub mod Table
 pub mod Operations
+pub mod Calls
 pub mod Events
 -- Laws that the checker has shown: Theorem is demand 3, the others carry it.
-pub mod Tests
 pub mod Soundness
+pub mod Conditions
 pub mod Machines
+pub mod Patches
 pub mod Rounds
-pub mod Effects
+pub mod Outcomes
+pub mod Changes
 pub mod Theorem

@@ -10,19 +10,31 @@ use native.Mathlib.Omega.{arith}
 use borrow.Author.Tests.{eqb-true, eq-eqb}
 use lib.ListN.{length, getD, set, take, drop, length-set}
 use lib.Seq.{getD-set-other, drop-set-lt, take-set-le}
-use Rattle.cpu.specs.Machine.{machineOf, machineStep, times}
-use Rattle.cpu.specs.Times.{times-add}
-use Rattle.pattern.specs.Refusals.{unless}
+use Rattle.common.specs.Repetition.{times}
+use Rattle.common.specs.Layouts.{bytesIn}
+use Rattle.cpu.specs.Machine.{machineOf, machineStep}
+use Rattle.common.specs.RepetitionLaws.{times-add}
+use Rattle.common.specs.Choice.{if_then_else_}
+use Rattle.common.specs.Refusals.{unless, refusalBy}
 use Rattle.slices.specs.Laws.{part-front}
 use Rattle.slices.specs.Slices.{partOf}
-use Rattle.supervisor.specs.Effects.{Follows, Keeps, load-accepted, load-keeps, unload-accepted, unload-keeps, feed-accepted, feed-keeps, drain-accepted, drain-keeps}
-use Rattle.supervisor.specs.Events.{Call, load, unload, feed, drain, run, report, refusal, effect, accepted, afterCall, Event, call, write, after, afterAll, roundsIn, rounds, LeftAlone, LeftAloneAll, Free, NotWritten, FreeAll, SoundAll, RunsAccepted, Demand3}
-use Rattle.supervisor.specs.Operations.{System, slotOf, refusalBy, runRefusal, afterLoad, afterUnload, afterFeed, afterDrain, afterRun}
-use Rattle.supervisor.specs.Rounds.{Good, machineAt, Outside, outside-partition, Moved, rounds-moved, rounds-machine}
+use Rattle.supervisor.specs.Calls.{Call, change, run, query, refusal, effect, accepted, afterCall}
+use Rattle.supervisor.specs.Changes.{change-fits}
+use Rattle.supervisor.specs.Conditions.{Good}
+use Rattle.supervisor.specs.Events.{Event, call, write, after, afterAll, roundsOf, roundsIn, rounds, LeftAlone, LeftAloneAll, Free, NotWritten, FreeAll, SoundAll, RunsAccepted, Demand3}
+use Rattle.supervisor.specs.Operations.{System, slotOf, tableConditions, memoryConditions, afterRun}
+use Rattle.supervisor.specs.Patches.{machineAt, Outside, outside-partition, Keeps, patch-keeps}
+use Rattle.supervisor.specs.Rounds.{Moved, rounds-moved, rounds-machine}
 use Rattle.supervisor.specs.Soundness.{sound-fact, sound-test}
-use Rattle.supervisor.specs.Table.{isEmpty, endOf, bytesIn, sizesOf, sound, machineIn}
+use Rattle.supervisor.specs.Table.{isEmpty, endOf, sound, machineIn}
 use Rattle.supervisor.specs.declared.table.Partition.{Partition}
 use Rattle.supervisor.specs.declared.table.Slot.{Slot}
+
+-- slot j goes on as the lone machine for n steps
+record Follows (j n : ℕ) (x y : System) : Type 0 where
+  partition : slotOf y j .partition ≡ slotOf x j .partition
+  loaded : isEmpty (slotOf y j) ≡ false
+  machine : machineAt j y ≡ times n machineStep (machineAt j x)
 
 -- what one event, with p rounds accepted, does
 record Facts (e : Event) (p : ℕ) (x y : System) : Type 0 where
@@ -38,10 +50,22 @@ none-follows j x m = record { partition = refl; loaded = m; machine = refl }
 facts-refl : (e : Event) (x : System) → Good x → Facts e 0 x x
 facts-refl e x g = record { good = g; slot = λ j q m l. rw zero-mul (none-follows j x m); bytes = λ i w h₀ h₁. refl }
 
--- a call at slot k was accepted
+-- slot k was patched, and only who is not k was left alone
 facts-keeps : (e : Event) (k : ℕ) (x y : System) → ((j : ℕ) → LeftAlone j e x → j ≢ k) → Keeps k x y → Facts e 0 x y
+unfolding times
 facts-keeps e k x y other h =
-    record { good = h .good; slot = λ j q m l. rw zero-mul (h .others j q (other j l) m); bytes = λ i w h₀ h₁. h .bytes i h₀ h₁ }
+    record {
+      good = h .good;
+      slot = λ j q m l.
+          let same : slotOf y j ≡ slotOf x j = h .slots j (other j l) in
+          rw zero-mul
+          (record {
+            partition = ap (λ (s : Slot). s .partition) same;
+            loaded = ap (λ (s : Slot). isEmpty s) same ∙ m;
+            machine = h .machines j q (other j l);
+          });
+      bytes = λ i w h₀ h₁. h .bytes i h₀ h₁;
+    }
 
 run-facts : (c : ℕ) (x : System) → Good x → Facts (call (run c)) c x (afterRun c x)
 run-facts c x g =
@@ -52,64 +76,29 @@ run-facts c x g =
       bytes = λ i w h₀ h₁. m .bytes i h₀;
     }
 
--- the rounds of an accepted call
-roundsOf : Call → ℕ
-roundsOf (load k location file) = 0
-roundsOf (unload k) = 0
-roundsOf (feed k bytes) = 0
-roundsOf (drain k room) = 0
-roundsOf (run count) = count
-roundsOf (report k) = 0
-
 accepted-facts : (c : Call) (x : System) → Good x → refusal c x ≡ 0 → Facts (call c) (roundsOf c) x (effect c x)
-unfolding refusal effect roundsOf LeftAlone
-accepted-facts (load k location file) x g e =
-    facts-keeps (call (load k location file)) k x (afterLoad x k location file) (λ j l q. l (sym q) e) (load-keeps x g k location file (load-accepted x k location file e))
-accepted-facts (unload k) x g e =
-    facts-keeps (call (unload k)) k x (afterUnload x k) (λ j l q. l (sym q) e) (unload-keeps x g k (unload-accepted x k e))
-accepted-facts (feed k bytes) x g e =
-    let a = feed-accepted x k bytes e in
-    facts-keeps (call (feed k bytes)) k x (afterFeed x k bytes) (λ j l q. l (sym q) e) (feed-keeps x g k (a .named) bytes (a .fits))
-accepted-facts (drain k room) x g e =
-    facts-keeps (call (drain k room)) k x (afterDrain x k) (λ j l q. l (sym q) e) (drain-keeps x g k (drain-accepted x k room e .named))
-accepted-facts (run count) x g e = run-facts count x g
-accepted-facts (report k) x g e = facts-refl (call (report k)) x g
-
-rounds-accepted : (c : Call) (x : System) → accepted c x ≡ true → roundsIn (call c) x ≡ roundsOf c
-unfolding roundsIn roundsOf
-rounds-accepted (load k location file) x a = refl
-rounds-accepted (unload k) x a = refl
-rounds-accepted (feed k bytes) x a = refl
-rounds-accepted (drain k room) x a = refl
-rounds-accepted (run count) x a = rw a
-rounds-accepted (report k) x a = refl
-
-rounds-refused : (c : Call) (x : System) → accepted c x ≡ false → roundsIn (call c) x ≡ 0
-unfolding roundsIn
-rounds-refused (load k location file) x a = refl
-rounds-refused (unload k) x a = refl
-rounds-refused (feed k bytes) x a = refl
-rounds-refused (drain k room) x a = refl
-rounds-refused (run count) x a = rw a
-rounds-refused (report k) x a = refl
+unfolding effect roundsOf LeftAlone
+accepted-facts (change k c) x g e = facts-keeps (call (change k c)) k x _ (λ j l q. l (sym q) e) (patch-keeps x g k _ (change-fits c x k e))
+accepted-facts (run n) x g e = run-facts n x g
+accepted-facts (query q) x g e = facts-refl (call (query q)) x g
 
 call-facts : (c : Call) (x : System) → Good x → Facts (call c) (roundsIn (call c) x) x (afterCall c x)
-unfolding afterCall
+unfolding afterCall roundsIn if_then_else_
 call-facts c x g = go (accepted c x) refl
   where
-    go : (b : Bool) → accepted c x ≡ b → Facts (call c) (roundsIn (call c) x) x (afterCall c x)
-    go true a = rw (rounds-accepted c x a, a) (accepted-facts c x g (eqb-true (refusal c x) 0 a))
-    go false a = rw (rounds-refused c x a, a) (facts-refl (call c) x g)
+    go : (b : Bool) → accepted c x ≡ b → Facts (call c) (if b then roundsOf c else 0) x (if b then effect c x else x)
+    go true a = accepted-facts c x g (eqb-true (refusal c x) 0 a)
+    go false a = facts-refl (call c) x g
 
 -- a byte written from outside, outside a partition, leaves its machine
-part-elsewhere : (p : Partition) (memory : List ℕ) (i b : ℕ) → Outside p i → partOf (set memory i b) (p .base) (bytesIn p) ≡ partOf memory (p .base) (bytesIn p)
-part-elsewhere p memory i b (inl u) = ap (take (bytesIn p)) (drop-set-lt (p .base) memory i b u)
+part-elsewhere : (p : Partition) (memory : List ℕ) (i b : ℕ) → Outside p i → partOf (set memory i b) (p .base .0) (bytesIn (p .layout)) ≡ partOf memory (p .base .0) (bytesIn (p .layout))
+part-elsewhere p memory i b (inl u) = ap (take (bytesIn (p .layout))) (drop-set-lt (p .base .0) memory i b u)
 part-elsewhere p memory i b (inr u) =
-    part-front (set memory i b) (p .base) (bytesIn p) ∙ ap (drop (p .base)) (take-set-le (endOf p) memory i b u) ∙ sym (part-front memory (p .base) (bytesIn p))
+    part-front (set memory i b) (p .base .0) (bytesIn (p .layout)) ∙ ap (drop (p .base .0)) (take-set-le (endOf p) memory i b u) ∙ sym (part-front memory (p .base .0) (bytesIn (p .layout)))
 
 written-elsewhere : (s : Slot) (memory : List ℕ) (i b : ℕ) → Outside (s .partition) i → machineIn s (set memory i b) ≡ machineIn s memory
 unfolding machineIn
-written-elsewhere s memory i b o = ap (machineOf (sizesOf (s .partition)) (s .state)) (part-elsewhere (s .partition) memory i b o)
+written-elsewhere s memory i b o = ap (machineOf (s .partition .layout) (s .state)) (part-elsewhere (s .partition) memory i b o)
 
 write-facts : (i b : ℕ) (x : System) → Good x → Facts (write i b) 0 x (after (write i b) x)
 unfolding after LeftAlone NotWritten times
@@ -175,7 +164,7 @@ sound-after (e ∷ rest) x g = (sound-test (x .table) (g .safe), sound-after res
 
 -- a sound table with its memory refuses no run
 pub run-accepted : (x : System) → Good x → (count : ℕ) → refusal (run count) x ≡ 0
-unfolding refusal runRefusal refusalBy unless
+unfolding refusal memoryConditions tableConditions refusalBy unless if_then_else_
 run-accepted x g count = simp (sound-test (x .table) (g .safe), eq-eqb (length (x .memory)) (x .table .size) (g .fits))
 
 runs-after : (events : List Event) (x : System) → Good x → RunsAccepted events x

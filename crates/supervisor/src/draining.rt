@@ -7,9 +7,9 @@ use crate::table::Table;
 use cpu::State;
 ghost use mathlib.Core.Path.{_≡_};
 ghost use lib.ListN.{length};
-ghost use Rattle.supervisor.specs.Events as events;
-ghost use Rattle.supervisor.specs.Events.{outcome, outcomeOf};
-ghost use Rattle.supervisor.specs.Operations.{system, drainRefusal, drainedState, drainedCount, drainedBuffer};
+ghost use Rattle.supervisor.specs.Calls as calls;
+ghost use Rattle.supervisor.specs.Calls.{refusal, outcome, outcomeOf, drainedCount, drainedBuffer};
+ghost use Rattle.supervisor.specs.Operations.{system, drainedState};
 
 // The refusal, 0 for none, how many bytes were drained, and the table.
 pub struct Drained {
@@ -19,7 +19,7 @@ pub struct Drained {
 }
 
 fn drain_refusal(table: Table, memory: &[u8], slot: usize, room: usize) -> u8
-    ensures { λ r. ⌜ r ≡ drainRefusal (system table (now (memory .entry))) slot room ⌝ }
+    ensures { λ r. ⌜ r ≡ refusal (calls.change slot (calls.drain room)) (system table (now (memory .entry))) ⌝ }
 {
     let number = slot_refusal(table, memory, slot);
     if number != 0 {
@@ -37,19 +37,15 @@ fn drain_refusal(table: Table, memory: &[u8], slot: usize, room: usize) -> u8
 fn emptied(s: State) -> State
     ensures { λ r. ⌜ r ≡ drainedState s ⌝ }
 {
-    let cpu = s.cpu;
-    State {
-        cpu,
-        status: resumed(s.status, 4),
-        filled: s.filled,
-        read: s.read,
-        written: 0,
-    }
+    let mut next = s;
+    next.status = resumed(4, s.status);
+    next.written = 0;
+    next
 }
 
 // Document 01's collect. The memory's bytes are left, and so is the buffer behind the drained bytes.
 pub fn drain(table: Table, memory: &[u8], slot: usize, buffer: &mut [u8]) -> Drained
-    ensures { λ r. ⌜ outcome (r .refusal) (r .table) (now (memory .entry)) ≡ outcomeOf (events.drain slot (length (now (buffer .entry)))) (system table (now (memory .entry))) ⌝ }
+    ensures { λ r. ⌜ outcome (r .refusal) (r .table) (now (memory .entry)) ≡ outcomeOf (calls.change slot (calls.drain (length (now (buffer .entry))))) (system table (now (memory .entry))) ⌝ }
     ensures { λ r. ⌜ r .count ≡ drainedCount (system table (now (memory .entry))) slot (length (now (buffer .entry))) ⌝ }
     ensures { λ r. ⌜ now (buffer .exit) ≡ drainedBuffer (system table (now (memory .entry))) slot (now (buffer .entry)) ⌝ }
 {
@@ -65,11 +61,8 @@ pub fn drain(table: Table, memory: &[u8], slot: usize, buffer: &mut [u8]) -> Dra
     let partition = s.partition;
     let old = s.state;
     let count = old.written as usize;
-    slices::copy(
-        buffer,
-        0,
-        slices::part(memory, output_at(partition).0, count),
-    );
+    let place = output_at(partition);
+    slices::copy(buffer, 0, slices::part(memory, place.0 as usize, count));
     let state = emptied(old);
     let mut next = table;
     next.slots[slot] = Slot { partition, state };

@@ -7,12 +7,12 @@ use crate::table::Slot;
 use crate::table::Table;
 use cpu::State;
 ghost use mathlib.Core.Path.{_≡_};
-ghost use Rattle.supervisor.specs.Events as events;
-ghost use Rattle.supervisor.specs.Events.{outcome, outcomeOf};
-ghost use Rattle.supervisor.specs.Operations.{system, feedRefusal, fedState};
+ghost use Rattle.supervisor.specs.Calls as calls;
+ghost use Rattle.supervisor.specs.Calls.{refusal, outcome, outcomeOf};
+ghost use Rattle.supervisor.specs.Operations.{system, fedState};
 
 fn feed_refusal(table: Table, memory: &[u8], slot: usize, bytes: &[u8]) -> u8
-    ensures { λ r. ⌜ r ≡ feedRefusal (system table (now (memory .entry))) slot (now (bytes .entry)) ⌝ }
+    ensures { λ r. ⌜ r ≡ refusal (calls.change slot (calls.feed (now (bytes .entry)))) (system table (now (memory .entry))) ⌝ }
 {
     let number = slot_refusal(table, memory, slot);
     if number != 0 {
@@ -20,11 +20,12 @@ fn feed_refusal(table: Table, memory: &[u8], slot: usize, bytes: &[u8]) -> u8
     }
     let s = table.slots[slot];
     let p = s.partition;
+    let layout = p.layout;
     let state = s.state;
     if state.read < state.filled {
         return 14;
     }
-    if (bytes.len() == 0) | ((p.input as usize) < bytes.len()) {
+    if (bytes.len() == 0) | ((layout.input as usize) < bytes.len()) {
         return 15;
     }
     0
@@ -34,19 +35,16 @@ fn feed_refusal(table: Table, memory: &[u8], slot: usize, bytes: &[u8]) -> u8
 fn fed(count: u16, s: State) -> State
     ensures { λ r. ⌜ r ≡ fedState count s ⌝ }
 {
-    let cpu = s.cpu;
-    State {
-        cpu,
-        status: resumed(s.status, 3),
-        filled: count,
-        read: 0,
-        written: s.written,
-    }
+    let mut next = s;
+    next.status = resumed(3, s.status);
+    next.filled = count;
+    next.read = 0;
+    next
 }
 
 // Document 01's feed.
 pub fn feed(table: Table, memory: &mut [u8], slot: usize, bytes: &[u8]) -> Answer
-    ensures { λ r. ⌜ outcome (r .refusal) (r .table) (now (memory .exit)) ≡ outcomeOf (events.feed slot (now (bytes .entry))) (system table (now (memory .entry))) ⌝ }
+    ensures { λ r. ⌜ outcome (r .refusal) (r .table) (now (memory .exit)) ≡ outcomeOf (calls.change slot (calls.feed (now (bytes .entry)))) (system table (now (memory .entry))) ⌝ }
 {
     let number = feed_refusal(table, &memory[..], slot, bytes);
     if number != 0 {
@@ -57,7 +55,8 @@ pub fn feed(table: Table, memory: &mut [u8], slot: usize, bytes: &[u8]) -> Answe
     }
     let s = table.slots[slot];
     let partition = s.partition;
-    slices::copy(memory, input_at(partition).0, bytes);
+    let place = input_at(partition);
+    slices::copy(memory, place.0 as usize, bytes);
     let state = fed(bytes.len() as u16, s.state);
     let mut next = table;
     next.slots[slot] = Slot { partition, state };

@@ -16,7 +16,6 @@ pub use draining::Drained;
 pub use draining::drain;
 pub use feeding::feed;
 pub use loading::load;
-pub use location::Location;
 pub use reported::Report;
 pub use reporting::report;
 pub use running::run;

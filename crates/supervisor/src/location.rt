@@ -1,29 +1,35 @@
-// Machine addresses and places in memory.
+// Places in memory, from a partition's addresses.
 use crate::table::Partition;
-use cpu::Address;
+use common::Address;
+use common::Location;
 ghost use mathlib.Core.Path.{_≡_};
-ghost use Prim.Native.Nat.{_+_};
-
-// A place in memory (document 01's floor place): document 000's relocated location.
-pub struct Location(pub usize);
+ghost use Prim.Native.Nat.{_+_, _<_, _≤_};
+ghost use Rattle.supervisor.specs.Table.{endOf, locationOf, inputPlace, outputPlace};
 
 // The place of a machine address: the only way from one to the other is the partition's base.
-pub(crate) fn located(p: Partition, a: Address) -> Location
-    ensures { λ r. ⌜ r .0 ≡ p .base + a .0 ⌝ }
+fn located(p: Partition, a: Address) -> Location
+    requires { ⌜ p .base .0 + a .0 < 4294967296 ⌝ }
+    ensures { λ r. ⌜ r ≡ locationOf p a ⌝ }
 {
-    Location(p.base as usize + a.0 as usize)
+    let base = p.base;
+    Location(base.0 + a.0 as u32)
 }
 
 // Where the input buffer starts: at the first address outside the window.
 pub(crate) fn input_at(p: Partition) -> Location
-    ensures { λ r. ⌜ r .0 ≡ p .base + p .window ⌝ }
+    requires { ⌜ endOf p ≤ 65536 ⌝ }
+    ensures { λ r. ⌜ r ≡ inputPlace p ⌝ }
 {
-    located(p, Address(p.window))
+    let layout = p.layout;
+    located(p, Address(layout.window))
 }
 
 // Where the output buffer starts: behind the input buffer.
 pub(crate) fn output_at(p: Partition) -> Location
-    ensures { λ r. ⌜ r .0 ≡ p .base + p .window + p .input ⌝ }
+    requires { ⌜ endOf p ≤ 65536 ⌝ }
+    ensures { λ r. ⌜ r ≡ outputPlace p ⌝ }
 {
-    Location(input_at(p).0 + p.input as usize)
+    let layout = p.layout;
+    let input = input_at(p);
+    Location(input.0 + layout.input as u32)
 }

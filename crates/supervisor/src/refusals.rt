@@ -1,20 +1,25 @@
-// What refuses a call before its own conditions.
+// What refuses a call before its own conditions: the table's conditions, the memory's, the slot's. Each is looked at in one place.
 use crate::sound::is_sound;
 use crate::table::Table;
-ghost use mathlib.Core.Bool.{not};
-ghost use mathlib.Core.List.{_∷_, []};
+ghost use mathlib.Core.List.{_++_};
 ghost use mathlib.Core.Path.{_≡_};
-ghost use lib.Dec.{ltb};
-ghost use Rattle.pattern.specs.Refusals.{_gives_};
-ghost use Rattle.supervisor.specs.Operations.{system, otherLength, refusalBy, runRefusal, unloadRefusal};
-ghost use Rattle.supervisor.specs.Table.{slotAt, isEmpty, sound};
+ghost use Rattle.common.specs.Refusals.{refusalBy};
+ghost use Rattle.supervisor.specs.Operations.{system, tableConditions, memoryConditions, emptyConditions, loadedConditions};
 
-// Of a call with a table and a memory.
-pub(crate) fn table_refusal(table: Table, memory: &[u8]) -> u8
-    ensures { λ r. ⌜ r ≡ runRefusal (system table (now (memory .entry))) ⌝ }
+// Of a call with a table.
+pub(crate) fn table_refusal(table: Table) -> u8
+    ensures { λ r. ⌜ r ≡ refusalBy (tableConditions table) ⌝ }
 {
-    if !is_sound(table) {
-        return 1;
+    if is_sound(table) { 0 } else { 1 }
+}
+
+// Of a call with a table and its memory.
+pub(crate) fn memory_refusal(table: Table, memory: &[u8]) -> u8
+    ensures { λ r. ⌜ r ≡ refusalBy (memoryConditions (system table (now (memory .entry)))) ⌝ }
+{
+    let number = table_refusal(table);
+    if number != 0 {
+        return number;
     }
     if memory.len() != table.size as usize {
         return 2;
@@ -22,14 +27,25 @@ pub(crate) fn table_refusal(table: Table, memory: &[u8]) -> u8
     0
 }
 
-// Of a call at a slot that holds a pattern.
-pub(crate) fn slot_refusal(table: Table, memory: &[u8], slot: usize) -> u8
-    ensures { λ r. ⌜ r ≡ unloadRefusal (system table (now (memory .entry))) slot ⌝ }
+// Of a slot that is to be empty.
+fn empty_refusal(table: Table, slot: usize) -> u8
+    ensures { λ r. ⌜ r ≡ refusalBy (emptyConditions table slot) ⌝ }
 {
-    let number = table_refusal(table, memory);
-    if number != 0 {
-        return number;
+    if Table::SLOTS <= slot {
+        return 3;
     }
+    let s = table.slots[slot];
+    let state = s.state;
+    if state.status != 0 {
+        return 4;
+    }
+    0
+}
+
+// Of a slot that is to hold a pattern.
+fn loaded_refusal(table: Table, slot: usize) -> u8
+    ensures { λ r. ⌜ r ≡ refusalBy (loadedConditions table slot) ⌝ }
+{
     if Table::SLOTS <= slot {
         return 3;
     }
@@ -41,21 +57,35 @@ pub(crate) fn slot_refusal(table: Table, memory: &[u8], slot: usize) -> u8
     0
 }
 
-// Of a call at a slot that is to be empty.
+// Of a call with a table and its memory at a slot that is to be empty.
 pub(crate) fn free_refusal(table: Table, memory: &[u8], slot: usize) -> u8
-    ensures { λ r. ⌜ r ≡ refusalBy (not (sound table) gives 1 ∷ otherLength (system table (now (memory .entry))) gives 2 ∷ ltb 7 slot gives 3 ∷ not (isEmpty (slotAt table slot)) gives 4 ∷ []) ⌝ }
+    ensures { λ r. ⌜ r ≡ refusalBy (memoryConditions (system table (now (memory .entry))) ++ emptyConditions table slot) ⌝ }
 {
-    let number = table_refusal(table, memory);
+    let number = memory_refusal(table, memory);
     if number != 0 {
         return number;
     }
-    if Table::SLOTS <= slot {
-        return 3;
+    empty_refusal(table, slot)
+}
+
+// Of a call with a table and its memory at a slot that is to hold a pattern.
+pub(crate) fn slot_refusal(table: Table, memory: &[u8], slot: usize) -> u8
+    ensures { λ r. ⌜ r ≡ refusalBy (memoryConditions (system table (now (memory .entry))) ++ loadedConditions table slot) ⌝ }
+{
+    let number = memory_refusal(table, memory);
+    if number != 0 {
+        return number;
     }
-    let s = table.slots[slot];
-    let state = s.state;
-    if state.status != 0 {
-        return 4;
+    loaded_refusal(table, slot)
+}
+
+// Of a call with a table alone at a slot that is to hold a pattern.
+pub(crate) fn held_refusal(table: Table, slot: usize) -> u8
+    ensures { λ r. ⌜ r ≡ refusalBy (tableConditions table ++ loadedConditions table slot) ⌝ }
+{
+    let number = table_refusal(table);
+    if number != 0 {
+        return number;
     }
-    0
+    loaded_refusal(table, slot)
 }

@@ -1,28 +1,12 @@
 // Reporting on a slot.
+use crate::refusals::held_refusal;
 use crate::reported::Report;
-use crate::sound::is_sound;
 use crate::table::Table;
 use cpu::State;
 ghost use mathlib.Core.Path.{_≡_};
 ghost use Prim.Native.Nat.{_<_};
-ghost use Rattle.supervisor.specs.Operations.{reportRefusal, sensedPsu, reportOf};
-
-fn report_refusal(table: Table, slot: usize) -> u8
-    ensures { λ r. ⌜ r ≡ reportRefusal table slot ⌝ }
-{
-    if !is_sound(table) {
-        return 1;
-    }
-    if Table::SLOTS <= slot {
-        return 3;
-    }
-    let s = table.slots[slot];
-    let state = s.state;
-    if state.status == 0 {
-        return 5;
-    }
-    0
-}
+ghost use Rattle.supervisor.specs.Calls.{reportOf};
+ghost use Rattle.supervisor.specs.Operations.{sensedPsu};
 
 // PSU with Sense, which is never stored: the stored one is below 128.
 fn sensed(s: State) -> u8
@@ -41,7 +25,7 @@ fn sensed(s: State) -> u8
 pub fn report(table: Table, slot: usize) -> Report
     ensures { λ r. ⌜ r ≡ reportOf table slot ⌝ }
 {
-    let refusal = report_refusal(table, slot);
+    let refusal = held_refusal(table, slot);
     if refusal != 0 {
         return Report {
             refusal,

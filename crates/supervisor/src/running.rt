@@ -4,33 +4,29 @@ ghost use mathlib.Core.Path.{_≡_};
 ghost use Prim.Native.Nat.{_≤_};
 ghost use lib.ListN.{length};
 ghost use Rattle.slices.specs.Slices.{copied};
-ghost use Rattle.supervisor.specs.Events as events;
-ghost use Rattle.supervisor.specs.Events.{outcome, outcomeOf};
-ghost use Rattle.supervisor.specs.Operations.{system, stateOf, bytesOf, advanced, afterRun};
+ghost use Rattle.supervisor.specs.Calls as calls;
+ghost use Rattle.supervisor.specs.Calls.{outcome, outcomeOf};
+ghost use Rattle.supervisor.specs.Operations.{system, bytesOf, advanced, afterRun};
 ghost use Rattle.supervisor.specs.Table.{endOf, sound};
-use crate::refusals::table_refusal;
+use crate::refusals::memory_refusal;
 use crate::table::Answer;
 use crate::table::Slot;
 use crate::table::Table;
-use cpu::Sizes;
 use cpu::State;
 
 // One slot's quantum: its machine is lent its partition's bytes and nothing else.
 fn quantum(slot: Slot, memory: &mut [u8]) -> State
     requires { ⌜ endOf (slot .partition) ≤ length (now memory) ⌝ }
-    ensures { λ r. ⌜ r ≡ stateOf (advanced slot (now (memory .entry))) ⌝ }
-    ensures { λ _. ⌜ now (memory .exit) ≡ copied (now (memory .entry)) (slot .partition .base) (bytesOf (advanced slot (now (memory .entry)))) ⌝ }
+    ensures { λ r. ⌜ r ≡ advanced slot (now (memory .entry)) .state ⌝ }
+    ensures { λ _. ⌜ now (memory .exit) ≡ copied (now (memory .entry)) (slot .partition .base .0) (bytesOf (advanced slot (now (memory .entry)))) ⌝ }
 {
     let p = slot.partition;
     let s = slot.state;
-    let base = p.base as usize;
-    let end = base + p.window as usize + p.input as usize + p.output as usize;
-    let sizes = Sizes {
-        window: p.window,
-        input: p.input,
-        output: p.output,
-    };
-    cpu::run(s, &mut memory[base..end], sizes, p.quantum as u64)
+    let place = p.base;
+    let layout = p.layout;
+    let base = place.0 as usize;
+    let end = base + layout.window as usize + layout.input as usize + layout.output as usize;
+    cpu::run(s, &mut memory[base..end], layout, p.quantum as u64)
 }
 
 // Rounds over all slots, the table changed in place. A slot that is empty or stopped costs a test.
@@ -40,8 +36,8 @@ fn rounds(table: Table, memory: &mut [u8], count: u16) -> Table
     ensures { λ r. ⌜ system r (now (memory .exit)) ≡ afterRun count (system table (now (memory .entry))) ⌝ }
 {
     let mut next = table;
-    let mut c: u16 = 0;
-    while c < count {
+    let mut left = count;
+    while 0 < left {
         let mut k: usize = 0;
         while k < Table::SLOTS {
             let s = next.slots[k];
@@ -53,15 +49,15 @@ fn rounds(table: Table, memory: &mut [u8], count: u16) -> Table
             }
             k += 1;
         }
-        c += 1;
+        left -= 1;
     }
     next
 }
 
 pub fn run(table: Table, memory: &mut [u8], count: u16) -> Answer
-    ensures { λ r. ⌜ outcome (r .refusal) (r .table) (now (memory .exit)) ≡ outcomeOf (events.run count) (system table (now (memory .entry))) ⌝ }
+    ensures { λ r. ⌜ outcome (r .refusal) (r .table) (now (memory .exit)) ≡ outcomeOf (calls.run count) (system table (now (memory .entry))) ⌝ }
 {
-    let number = table_refusal(table, &memory[..]);
+    let number = memory_refusal(table, &memory[..]);
     if number != 0 {
         return Answer {
             refusal: number,

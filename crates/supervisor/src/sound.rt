@@ -2,27 +2,19 @@
 use crate::table::Partition;
 use crate::table::Slot;
 use crate::table::Table;
+use common::Layout;
+use common::is_within;
 use cpu::State;
 ghost use mathlib.Core.Path.{_≡_};
 ghost use Rattle.cpu.specs.State.{storedPsu};
-ghost use Rattle.pattern.specs.Values.{within};
-ghost use Rattle.supervisor.specs.Table.{slotAt, allBelow, allLow, allZero, partitionSound, stateSound, zeroPartition, zeroState, slotSound, apart, clearOf, sound};
-
-// Whether `n` is 1 to `most`.
-pub(crate) fn is_within(n: usize, most: usize) -> bool
-    ensures { λ r. ⌜ r ≡ within n most ⌝ }
-{
-    (1 <= n) & (n <= most)
-}
+ghost use Rattle.common.specs.Tests.{allBelow};
+ghost use Rattle.supervisor.specs.Table.{slotAt, allLow, allZero, partitionSound, stateSound, zeroPartition, zeroState, slotSound, apart, clearOf, sound};
 
 fn partition_sound(size: u32, p: Partition) -> bool
     ensures { λ r. ⌜ r ≡ partitionSound size p ⌝ }
 {
-    is_within(p.window as usize, 32768)
-        & is_within(p.input as usize, 4096)
-        & is_within(p.output as usize, 4096)
-        & is_within(p.quantum as usize, 255)
-        & (p.end() <= size as usize)
+    let layout = p.layout;
+    layout.is_sound() & is_within(p.quantum as usize, 255) & (p.end() <= size as usize)
 }
 
 // Whether each address has fifteen bits.
@@ -69,26 +61,32 @@ fn stored(psu: u8) -> u8
     psu / 32 % 4 * 32 + psu % 8
 }
 
-fn state_sound(p: Partition, s: State) -> bool
-    ensures { λ r. ⌜ r ≡ stateSound p s ⌝ }
+fn state_sound(layout: Layout, s: State) -> bool
+    ensures { λ r. ⌜ r ≡ stateSound layout s ⌝ }
 {
     let cpu = s.cpu;
     let returns = cpu.returns;
-    is_within(s.status as usize, 7)
+    is_within(s.status as usize, State::LAST_STATUS as usize)
         & (cpu.counter < 32768)
         & all_low(&returns)
         & (stored(cpu.psu) == cpu.psu)
         & (s.read <= s.filled)
-        & (s.filled <= p.input)
-        & (s.written <= p.output)
+        & (s.filled <= layout.input)
+        & (s.written <= layout.output)
         & ((s.status != 3) | (s.read == s.filled))
-        & ((s.status != 4) | (s.written == p.output))
+        & ((s.status != 4) | (s.written == layout.output))
 }
 
 fn zero_partition(p: Partition) -> bool
     ensures { λ r. ⌜ r ≡ zeroPartition p ⌝ }
 {
-    (p.base == 0) & (p.window == 0) & (p.input == 0) & (p.output == 0) & (p.quantum == 0)
+    let base = p.base;
+    let layout = p.layout;
+    (base.0 == 0)
+        & (layout.window == 0)
+        & (layout.input == 0)
+        & (layout.output == 0)
+        & (p.quantum == 0)
 }
 
 fn zero_state(s: State) -> bool
@@ -115,14 +113,16 @@ fn slot_sound(size: u32, s: Slot) -> bool
 {
     let p = s.partition;
     let state = s.state;
-    zero_partition(p) & zero_state(state) | partition_sound(size, p) & state_sound(p, state)
+    zero_partition(p) & zero_state(state) | partition_sound(size, p) & state_sound(p.layout, state)
 }
 
 // Whether two partitions do not meet.
 fn are_apart(p: Partition, q: Partition) -> bool
     ensures { λ r. ⌜ r ≡ apart p q ⌝ }
 {
-    (p.end() <= q.base as usize) | (q.end() <= p.base as usize)
+    let base = p.base;
+    let start = q.base;
+    (p.end() <= start.0 as usize) | (q.end() <= base.0 as usize)
 }
 
 // Whether `p` meets the partition of no slot but one.

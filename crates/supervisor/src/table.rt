@@ -1,34 +1,46 @@
 // The table and its parts, by value; a new table.
-use crate::sound::is_within;
+use common::Address;
+use common::Layout;
+use common::Location;
+use common::is_within;
 use cpu::Cpu;
 use cpu::State;
 ghost use mathlib.Core.Path.{_≡_};
-ghost use Rattle.supervisor.specs.Table.{bytesIn, endOf};
+ghost use Rattle.supervisor.specs.Table.{noPartition, endOf};
 ghost use Rattle.supervisor.specs.Operations.{emptySlot, tableOf, newRefusal, newOf};
 
-// What stays of a slot from load to unload (document 01's bay): where its bytes start in memory, how many are window, input
-// and output, and how many steps it takes in a round (document 01's stint).
+// What stays of a slot from load to unload (document 01's bay): where its bytes start in memory, how they are parted, and how many
+// steps it takes in a round (document 01's stint).
 pub struct Partition {
-    pub base: u32,
-    pub window: u16,
-    pub input: u16,
-    pub output: u16,
+    pub base: Location,
+    pub layout: Layout,
     pub quantum: u8,
 }
 
 impl Partition {
-    // How many bytes it has.
-    pub(crate) fn bytes(self) -> usize
-        ensures { λ r. ⌜ r ≡ bytesIn self ⌝ }
+    // No bytes, at 0.
+    fn none() -> Partition
+        ensures { λ p. ⌜ p ≡ noPartition ⌝ }
     {
-        self.window as usize + self.input as usize + self.output as usize
+        let layout = Layout {
+            window: 0,
+            input: 0,
+            output: 0,
+        };
+        Partition {
+            base: Location(0),
+            layout,
+            quantum: 0,
+        }
     }
 
     // The place behind its last byte.
     pub(crate) fn end(self) -> usize
         ensures { λ r. ⌜ r ≡ endOf self ⌝ }
     {
-        self.base as usize + self.bytes()
+        let base = self.base;
+        let layout = self.layout;
+        base.0 as usize + layout.bytes()
     }
 }
 
@@ -42,28 +54,10 @@ impl Slot {
     pub(crate) fn empty() -> Slot
         ensures { λ s. ⌜ s ≡ emptySlot ⌝ }
     {
-        let partition = Partition {
-            base: 0,
-            window: 0,
-            input: 0,
-            output: 0,
-            quantum: 0,
-        };
-        let cpu = Cpu {
-            counter: 0,
-            registers: [0; 7],
-            psu: 0,
-            psl: 0,
-            returns: [0; 8],
-        };
-        let state = State {
-            cpu,
-            status: 0,
-            filled: 0,
-            read: 0,
-            written: 0,
-        };
-        Slot { partition, state }
+        Slot {
+            partition: Partition::none(),
+            state: State::at_rest(Cpu::fresh(Address(0))),
+        }
     }
 }
 

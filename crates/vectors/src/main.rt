@@ -6,9 +6,9 @@ use slices::byte;
 use slices::copy;
 use slices::fill;
 use slices::front;
+use slices::pair;
 use slices::part;
 use slices::rest;
-use slices::word;
 use std::num::wrapping_add_u64;
 ghost use Prim.Native.Nat.{_≤_, _<_};
 
@@ -23,11 +23,11 @@ fn print(text: &[u8]) {
 
 // Puts an entry's file at the front of `file`; answers its length.
 fn unpack(entry: &[u8], file: &mut [u8]) -> usize {
-    let head = word(entry, 4) as usize;
-    let run = word(entry, 6) as usize;
-    let middle = word(entry, 8) as usize;
-    let second = word(entry, 10) as usize;
-    let tail = word(entry, 12) as usize;
+    let head = pair(entry, 4) as usize;
+    let run = pair(entry, 6) as usize;
+    let middle = pair(entry, 8) as usize;
+    let second = pair(entry, 10) as usize;
+    let tail = pair(entry, 12) as usize;
     let middle_at = head + run;
     let second_at = middle_at + middle;
     let tail_at = second_at + second;
@@ -35,7 +35,7 @@ fn unpack(entry: &[u8], file: &mut [u8]) -> usize {
     let behind_middle = head + middle;
     let bytes = rest(
         entry,
-        16 + word(entry, 0) as usize + word(entry, 2) as usize,
+        16 + pair(entry, 0) as usize + pair(entry, 2) as usize,
     );
     copy(file, 0, front(bytes, head));
     fill(file, head, run, byte(entry, 14));
@@ -50,8 +50,8 @@ fn entry_length(entry: &[u8]) -> usize
     ensures { λ r. ⌜ 16 ≤ r ⌝ }
     ensures { λ r. ⌜ r < 1048576 ⌝ }
 {
-    let fields = word(entry, 0) as usize + word(entry, 2) as usize;
-    let bytes = word(entry, 4) as usize + word(entry, 8) as usize + word(entry, 12) as usize;
+    let fields = pair(entry, 0) as usize + pair(entry, 2) as usize;
+    let bytes = pair(entry, 4) as usize + pair(entry, 8) as usize + pair(entry, 12) as usize;
     16 + fields + bytes
 }
 
@@ -63,11 +63,11 @@ fn compare(entry: &[u8], tally: Tally) -> Tally {
     let mut text = [0u8; Listed::LONGEST];
     let listed = listing::listing(front(&space, size), &mut memory, &mut text);
     let got = front(&text, listed.length);
-    let wanted = part(entry, 16 + word(entry, 0) as usize, word(entry, 2) as usize);
+    let wanted = part(entry, 16 + pair(entry, 0) as usize, pair(entry, 2) as usize);
     let same = check::same(got, wanted);
     if !same {
         print(b"differs: ");
-        print(part(entry, 16, word(entry, 0) as usize));
+        print(part(entry, 16, pair(entry, 0) as usize));
         print(b"\nwanted:\n");
         print(wanted);
         print(b"got:\n");

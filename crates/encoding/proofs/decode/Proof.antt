@@ -1,4 +1,5 @@
-use Rattle.encoding.specs.Encoding.{stateOf}
+-- `encoding::decode`: each field is read where the definition reads it.
+use Rattle.encoding.specs.Encoding.{stateAt}
 use borrow.Author.Needs.{needs}
 use Rattle.encoding.proofs.decode.Statement.{statement}
 use Rattle.encoding.proofs.decode.Tie as tie
@@ -9,25 +10,18 @@ decode-cpu-requires c κs = search needs
 byte-requires : tie.Need-byte-requires
 byte-requires c κs = search needs
 
-number-requires : tie.Need-number-requires
-number-requires c κs = search needs
+pair-requires : tie.Need-pair-requires
+pair-requires c κs = search needs
 
-number-requires-2 : tie.Need-number-requires-2
-number-requires-2 c κs = search needs
+pair-requires-2 : tie.Need-pair-requires-2
+pair-requires-2 c κs = search needs
 
-number-requires-3 : tie.Need-number-requires-3
-number-requires-3 c κs = search needs
+pair-requires-3 : tie.Need-pair-requires-3
+pair-requires-3 c κs = search needs
 
 returns : tie.Need-returns
-unfolding stateOf
-returns c =
-    rw (
-      ← c .before .before .before .before .decode-cpu .ensures,
-      ← c .before .before .before .byte .ensures,
-      ← c .before .before .number .ensures,
-      ← c .before .number2 .ensures,
-      ← c .number3 .ensures,
-    )
+unfolding stateAt
+returns c = rw (← c .before .before .before .before .decode-cpu .ensures, ← c .before .before .before .byte .ensures, ← c .before .before .pair .ensures, ← c .before .pair2 .ensures, ← c .pair3 .ensures)
 
 pub decode-spec : {M : Type 1} → statement M
 decode-spec =
@@ -35,7 +29,7 @@ decode-spec =
     (tie.spec
     decode-cpu-requires
     byte-requires
-    number-requires
-    number-requires-2
-    number-requires-3
+    pair-requires
+    pair-requires-2
+    pair-requires-3
     returns)

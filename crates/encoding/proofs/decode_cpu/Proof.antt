@@ -1,10 +1,11 @@
+-- `encoding::decode_cpu`: each field is read where the definition reads it.
 use Rattle.encoding.specs.Encoding.{cpuAt}
 use borrow.Author.Needs.{needs}
 use Rattle.encoding.proofs.decode_cpu.Statement.{statement}
 use Rattle.encoding.proofs.decode_cpu.Tie as tie
 
-number-requires : tie.Need-number-requires
-number-requires c κs = search needs
+pair-requires : tie.Need-pair-requires
+pair-requires c κs = search needs
 
 registers-requires : tie.Need-registers-requires
 registers-requires c κs = search needs
@@ -20,20 +21,13 @@ returns-requires c κs = search needs
 
 returns : tie.Need-returns
 unfolding cpuAt
-returns c =
-    rw (
-      ← c .before .before .before .before .number .ensures,
-      ← c .before .before .before .registers .ensures,
-      ← c .before .before .byte .ensures,
-      ← c .before .byte2 .ensures,
-      ← c .returns .ensures,
-    )
+returns c = rw (← c .before .before .before .before .pair .ensures, ← c .before .before .before .registers .ensures, ← c .before .before .byte .ensures, ← c .before .byte2 .ensures, ← c .returns .ensures)
 
 pub decode-cpu-spec : {M : Type 1} → statement M
 decode-cpu-spec =
     tie.close
     (tie.spec
-    number-requires
+    pair-requires
     registers-requires
     byte-requires
     byte-requires-2

@@ -1,51 +1,54 @@
+-- `encoding::registers`: each turn reads one register.
+use Prim.Native.Nat.{_+_, _-_}
+use lib.ListN.{getD}
+use Rattle.slices.specs.PieceLaws.{ListedTo, listed-none, listed-next, listed-all}
 use Rattle.encoding.specs.Encoding.{registersAt}
 use borrow.Author.Needs.{needs}
 use Rattle.encoding.proofs.registers.Statement.{statement}
 use Rattle.encoding.proofs.registers.Tie as tie
 
-byte-requires : tie.Need-byte-requires
+abbrev Inv-loop : tie.InvT-loop
+Inv-loop bytes registers₀ i₀ registers i = ListedTo 7 (λ k. getD bytes (2 + k) 0) i registers
+
+abbrev μ-loop : tie.MeasureT-loop
+μ-loop bytes registers₀ i₀ registers i = 7 - i
+
+loop-holds : tie.Need-loop-holds Inv-loop μ-loop
+loop-holds c = listed-none _ _ _ (search needs)
+
+add-byte : tie.Need-add-byte Inv-loop μ-loop
+add-byte c = search needs
+
+byte-requires : tie.Need-byte-requires Inv-loop μ-loop
 byte-requires c κs = search needs
 
-byte-requires-2 : tie.Need-byte-requires-2
-byte-requires-2 c κs = search needs
+array-write-registers : tie.Need-array-write-registers Inv-loop μ-loop
+array-write-registers c = search needs
 
-byte-requires-3 : tie.Need-byte-requires-3
-byte-requires-3 c κs = search needs
+add-i : tie.Need-add-i Inv-loop μ-loop
+add-i c = search needs
 
-byte-requires-4 : tie.Need-byte-requires-4
-byte-requires-4 c κs = search needs
+loop-less : tie.Need-loop-less Inv-loop μ-loop
+loop-less c = search needs
 
-byte-requires-5 : tie.Need-byte-requires-5
-byte-requires-5 c κs = search needs
+loop-again : tie.Need-loop-again Inv-loop μ-loop
+loop-again c = listed-next _ _ (c .before .before .loop .i) _ (c .before .before .loop .inv) _ (c .before .loop-test .taken) (c .byte .ensures)
 
-byte-requires-6 : tie.Need-byte-requires-6
-byte-requires-6 c κs = search needs
-
-byte-requires-7 : tie.Need-byte-requires-7
-byte-requires-7 c κs = search needs
-
-returns : tie.Need-returns
+returns : tie.Need-returns Inv-loop μ-loop
 unfolding registersAt
-returns c =
-    rw (
-      ← c .before .before .before .before .before .before .byte .ensures,
-      ← c .before .before .before .before .before .byte2 .ensures,
-      ← c .before .before .before .before .byte3 .ensures,
-      ← c .before .before .before .byte4 .ensures,
-      ← c .before .before .byte5 .ensures,
-      ← c .before .byte6 .ensures,
-      ← c .byte7 .ensures,
-    )
+returns c = listed-all _ _ (c .before .loop .i) _ (c .before .loop .inv) (c .loop-test .left)
 
 pub registers-spec : {M : Type 1} → statement M
 registers-spec =
     tie.close
     (tie.spec
+    Inv-loop
+    μ-loop
+    loop-holds
+    add-byte
     byte-requires
-    byte-requires-2
-    byte-requires-3
-    byte-requires-4
-    byte-requires-5
-    byte-requires-6
-    byte-requires-7
+    array-write-registers
+    add-i
+    loop-less
+    loop-again
     returns)

@@ -25,8 +25,8 @@ compare-requires c κs = tt
 add-at : tie.Need-add-at Inv-loop μ-loop
 add-at c = omega arith
 
-word-requires : tie.Need-word-requires Inv-loop μ-loop
-word-requires c κs = tt
+pair-requires : tie.Need-pair-requires Inv-loop μ-loop
+pair-requires c κs = tt
 
 cast-at : tie.Need-cast-at Inv-loop μ-loop
 cast-at c = omega arith
@@ -34,11 +34,11 @@ cast-at c = omega arith
 add-at-2 : tie.Need-add-at-2 Inv-loop μ-loop
 add-at-2 c = omega arith
 
-add-word : tie.Need-add-word Inv-loop μ-loop
-add-word c = omega arith
+add-pair : tie.Need-add-pair Inv-loop μ-loop
+add-pair c = omega arith
 
-word-requires-2 : tie.Need-word-requires-2 Inv-loop μ-loop
-word-requires-2 c κs = tt
+pair-requires-2 : tie.Need-pair-requires-2 Inv-loop μ-loop
+pair-requires-2 c κs = tt
 
 cast-at-2 : tie.Need-cast-at-2 Inv-loop μ-loop
 cast-at-2 c = omega arith
@@ -66,11 +66,11 @@ compare-all-spec =
     rest-requires
     compare-requires
     add-at
-    word-requires
+    pair-requires
     cast-at
     add-at-2
-    add-word
-    word-requires-2
+    add-pair
+    pair-requires-2
     cast-at-2
     add-at-3
     loop-less

@@ -27,8 +27,8 @@ same-length-2 c = c .before .before .before .loop .inv
 returns-2 : tie.Need-returns-2 Inv-loop μ-loop
 returns-2 c = tt
 
-word-requires : tie.Need-word-requires Inv-loop μ-loop
-word-requires c κs = tt
+pair-requires : tie.Need-pair-requires Inv-loop μ-loop
+pair-requires c κs = tt
 
 add-rest : tie.Need-add-rest Inv-loop μ-loop
 add-rest c = omega arith
@@ -80,7 +80,7 @@ unpack-spec =
     returns
     same-length-2
     returns-2
-    word-requires
+    pair-requires
     add-rest
     rest-requires
     put-piece-requires

@@ -2,7 +2,7 @@ use Prim.Native.Nat.{ℕ}
 use mathlib.Core.Path.{_≡_}
 use native.Mathlib.Omega.{arith}
 use lib.ListN.{length-replicate}
-use Rattle.supervisor.specs.Operations.{System, system, writtenBytes}
+use Rattle.supervisor.specs.Operations.{System, system, slotOf, writtenBytes}
 use Rattle.listing.proofs.Runs.{status-digit, output-drained, output-fits, lines-after}
 use borrow.Author.Needs.{needs}
 use Rattle.listing.proofs.put_outcome.Statement.{statement}
@@ -24,13 +24,13 @@ front-requires : tie.Need-front-requires
 front-requires c κs = search needs
 
 put-lines-requires : tie.Need-put-lines-requires
-put-lines-requires c κs = let x : System = system (c .before .before .before .before .before .before .before .before .before .args .table) (c .before .before .before .before .before .before .before .before .before .args .memory .now) in let drained : c .before .front .result .now ≡ writtenBytes x 0 = output-drained x (c .before .before .before .before .before .before .before .before .before .pre .0) (c .before .before .before .before .before .before .before .before .before .pre .1 .0) _ _ _ _ (length-replicate {A = ℕ} 4096 0) (c .before .before .before .before .drain .ensures .1 .0) (c .before .before .before .before .drain .ensures .1 .1) (c .before .front .ensures) in (status-digit x (c .before .before .before .before .before .before .before .before .before .pre .0) (c .before .before .before .before .before .before .before .before .before .pre .1 .0) _ (c .before .before .before .before .before .before .report .ensures), omega (arith, output-fits x (c .before .before .before .before .before .before .before .before .before .pre .0) (c .before .before .before .before .before .before .before .before .before .pre .1 .0) _ drained, c .before .before .before .before .before .before .before .before .before .pre .1 .1))
+put-lines-requires c κs = let x : System = system (c .before .before .before .before .before .before .before .before .before .args .table) (c .before .before .before .before .before .before .before .before .before .args .memory .now) in let drained : c .before .front .result .now ≡ writtenBytes (slotOf x 0) (x .memory) = output-drained x (c .before .before .before .before .before .before .before .before .before .pre .0) (c .before .before .before .before .before .before .before .before .before .pre .1 .0) _ _ _ _ (length-replicate {A = ℕ} 4096 0) (c .before .before .before .before .drain .ensures .1 .0) (c .before .before .before .before .drain .ensures .1 .1) (c .before .front .ensures) in (status-digit x (c .before .before .before .before .before .before .before .before .before .pre .0) (c .before .before .before .before .before .before .before .before .before .pre .1 .0) _ (c .before .before .before .before .before .before .report .ensures), omega (arith, output-fits x (c .before .before .before .before .before .before .before .before .before .pre .0) (c .before .before .before .before .before .before .before .before .before .pre .1 .0) _ drained, c .before .before .before .before .before .before .before .before .before .pre .1 .1))
 
 same-length : tie.Need-same-length
 same-length c = search needs
 
 returns : tie.Need-returns
-returns c = let x : System = system (c .before .before .before .before .before .before .before .before .before .before .before .before .args .table) (c .before .before .before .before .before .before .before .before .before .before .before .before .args .memory .now) in let drained : c .before .before .before .before .front .result .now ≡ writtenBytes x 0 = output-drained x (c .before .before .before .before .before .before .before .before .before .before .before .before .pre .0) (c .before .before .before .before .before .before .before .before .before .before .before .before .pre .1 .0) _ _ _ _ (length-replicate {A = ℕ} 4096 0) (c .before .before .before .before .before .before .before .drain .ensures .1 .0) (c .before .before .before .before .before .before .before .drain .ensures .1 .1) (c .before .before .before .before .front .ensures) in let put = c .before .before .put-lines .ensures in let lines = lines-after x (c .before .before .before .before .before .before .before .before .before .before .before .before .pre .0) (c .before .before .before .before .before .before .before .before .before .before .before .before .pre .1 .0) _ _ _ _ _ (c .before .before .before .before .before .before .before .before .before .report .ensures) drained (put .0, put .1 .0) in (lines .0, (lines .1, omega (arith, put .1 .1, output-fits x (c .before .before .before .before .before .before .before .before .before .before .before .before .pre .0) (c .before .before .before .before .before .before .before .before .before .before .before .before .pre .1 .0) _ drained)))
+returns c = let x : System = system (c .before .before .before .before .before .before .before .before .before .before .before .before .args .table) (c .before .before .before .before .before .before .before .before .before .before .before .before .args .memory .now) in let drained : c .before .before .before .before .front .result .now ≡ writtenBytes (slotOf x 0) (x .memory) = output-drained x (c .before .before .before .before .before .before .before .before .before .before .before .before .pre .0) (c .before .before .before .before .before .before .before .before .before .before .before .before .pre .1 .0) _ _ _ _ (length-replicate {A = ℕ} 4096 0) (c .before .before .before .before .before .before .before .drain .ensures .1 .0) (c .before .before .before .before .before .before .before .drain .ensures .1 .1) (c .before .before .before .before .front .ensures) in let put = c .before .before .put-lines .ensures in let lines = lines-after x (c .before .before .before .before .before .before .before .before .before .before .before .before .pre .0) (c .before .before .before .before .before .before .before .before .before .before .before .before .pre .1 .0) _ _ _ _ _ (c .before .before .before .before .before .before .before .before .before .report .ensures) drained (put .0, put .1 .0) in (lines .0, (lines .1, omega (arith, put .1 .1, output-fits x (c .before .before .before .before .before .before .before .before .before .before .before .before .pre .0) (c .before .before .before .before .before .before .before .before .before .before .before .before .pre .1 .0) _ drained)))
 
 pub put-outcome-spec : {M : Type 1} → statement M
 put-outcome-spec =

@@ -1,8 +1,9 @@
+-- `machine::pf_machine_run`: the state that is written holds the machine that ran.
 use borrow.Author.Tests.{eq-eqb, ne-eqb}
 use mathlib.Core.Path.{_≡_, ap, sym, _∙_}
 use lib.ListN.{length}
-use Rattle.cpu.specs.Choice.{if_then_else_}
-use Rattle.encoding.specs.Encoding.{stateOf}
+use Rattle.common.specs.Choice.{if_then_else_}
+use Rattle.encoding.specs.Encoding.{stateAt, stateLength}
 use Rattle.machine.specs.Run.{leftBy, machineRunOf}
 use Rattle.slices.specs.Laws.{copied-all}
 use borrow.Author.Needs.{needs}
@@ -36,7 +37,10 @@ same-length-2 c = search needs
 
 returns-2 : tie.Need-returns-2
 unfolding leftBy machineRunOf if_then_else_
-returns-2 c = let n : length (c .before .before .before .before .before .encode .result) ≡ 34 = search needs in let e : stateOf (c .before .before .copy .last .0) ≡ c .before .before .before .before .before .before .before .before .run .result = ap stateOf (c .before .before .copy .ensures ∙ copied-all _ _ (n ∙ sym (c .before .before .before .before .before .before .before .before .before .before .before .before .if1 .left))) ∙ c .before .before .before .before .before .encode .ensures .1 in rw (eq-eqb _ _ (c .before .before .before .before .before .before .before .before .before .before .before .before .if1 .left), e, c .before .before .before .before .before .before .before .before .run .ensures .0, c .before .before .before .before .before .before .before .before .run .ensures .1, c .before .before .before .before .before .before .before .before .before .before .decode .ensures)
+returns-2 c =
+    let n : length (c .before .before .before .before .before .encode .result) ≡ stateLength = search needs in
+    let e : stateAt (c .before .before .copy .last .0) ≡ c .before .before .before .before .before .before .before .before .run .result = ap stateAt (c .before .before .copy .ensures ∙ copied-all _ _ (n ∙ sym (c .before .before .before .before .before .before .before .before .before .before .before .before .if1 .left))) ∙ c .before .before .before .before .before .encode .ensures .1 in
+    rw (eq-eqb _ _ (c .before .before .before .before .before .before .before .before .before .before .before .before .if1 .left), e, c .before .before .before .before .before .before .before .before .run .ensures .0, c .before .before .before .before .before .before .before .before .run .ensures .1, c .before .before .before .before .before .before .before .before .before .before .decode .ensures)
 
 pub pf-machine-run-spec : {M : Type 1} → statement M
 pf-machine-run-spec =

@@ -1,7 +1,7 @@
 use Prim.Native.Nat.{_%_}
 use Rattle.cpu.proofs.Signed16.{minus-back, minus-fits, small}
 use Rattle.cpu.specs.Address.{displacementOf}
-use Rattle.cpu.specs.Choice.{if_then_else_}
+use Rattle.common.specs.Choice.{if_then_else_}
 use borrow.Author.Tests.{le-ltb, lt-ltb}
 use native.Mathlib.Omega.{arith}
 use borrow.Author.Needs.{needs}

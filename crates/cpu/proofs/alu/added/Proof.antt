@@ -3,8 +3,8 @@ use borrow.Author.Needs.{needs}
 use Rattle.cpu.proofs.alu.added.Statement.{statement}
 use Rattle.cpu.proofs.alu.added.Tie as tie
 
-sum-requires : tie.Need-sum-requires
-sum-requires c κs = search needs
+of-requires : tie.Need-of-requires
+of-requires c κs = search needs
 
 condition-requires : tie.Need-condition-requires
 condition-requires c κs = search needs
@@ -13,10 +13,7 @@ digit-carry-requires : tie.Need-digit-carry-requires
 digit-carry-requires c κs = search needs
 
 overflow-requires : tie.Need-overflow-requires
-overflow-requires c κs = search needs
-
-carry-requires : tie.Need-carry-requires
-carry-requires c κs = search needs
+overflow-requires c κs = (c .before .before .before .pre, (c .before .before .of .ensures .1 .0, c .before .before .of .ensures .1 .1))
 
 with-flags-requires : tie.Need-with-flags-requires
 with-flags-requires c κs = search needs
@@ -25,11 +22,11 @@ returns : tie.Need-returns
 unfolding addedOf
 returns c = (
   rw (
-    ← c .before .before .before .before .before .sum .ensures,
-    ← c .before .before .before .before .condition .ensures .0,
-    ← c .before .before .before .digit-carry .ensures .0,
-    ← c .before .before .overflow .ensures .0,
-    ← c .before .carry .ensures .0,
+    ← c .before .before .before .before .of .ensures .0,
+    ← c .before .before .before .condition .ensures .0,
+    ← c .before .before .digit-carry .ensures .0,
+    ← c .before .overflow .ensures .0,
+    ← c .before .before .before .before .of .ensures .1 .0,
     ← c .with-flags .ensures .0,
   ),
   c .with-flags .ensures .1,
@@ -39,10 +36,9 @@ pub added-spec : {M : Type 1} → statement M
 added-spec =
     tie.close
     (tie.spec
-    sum-requires
+    of-requires
     condition-requires
     digit-carry-requires
     overflow-requires
-    carry-requires
     with-flags-requires
     returns)

@@ -1,7 +1,7 @@
 use Rattle.cpu.proofs.Signed16.{signed-test}
 use Rattle.cpu.proofs.Tests.{tests}
 use Rattle.cpu.specs.Alu.{compareOf}
-use Rattle.cpu.specs.Choice.{if_then_else_}
+use Rattle.common.specs.Choice.{if_then_else_}
 use mathlib.Core.Bool.{false, true}
 use borrow.Author.Needs.{needs}
 use Rattle.cpu.proofs.alu.compare.Statement.{statement}

@@ -1,6 +1,6 @@
 use Rattle.cpu.proofs.Tests.{tests}
 use Rattle.cpu.specs.Alu.{conditionOf}
-use Rattle.cpu.specs.Choice.{if_then_else_}
+use Rattle.common.specs.Choice.{if_then_else_}
 use Rattle.cpu.proofs.alu.condition.Statement.{statement}
 use Rattle.cpu.proofs.alu.condition.Tie as tie
 

@@ -1,6 +1,6 @@
 use Rattle.cpu.proofs.Tests.{tests}
 use Rattle.cpu.specs.Alu.{digitOf}
-use Rattle.cpu.specs.Choice.{if_then_else_}
+use Rattle.common.specs.Choice.{if_then_else_}
 use native.Mathlib.Omega.{arith}
 use borrow.Author.Needs.{needs}
 use Rattle.cpu.proofs.alu.digit.Statement.{statement}

@@ -10,14 +10,11 @@ add-into c = search needs
 add-into-2 : tie.Need-add-into-2
 add-into-2 c = search needs
 
-carry-requires : tie.Need-carry-requires
-carry-requires c κs = search needs
-
 add-result : tie.Need-add-result
-add-result c = record { fits = carries-fit _ _ _ _ (c .before .pre) (c .carry .ensures .1) }
+add-result c = record { fits = carries-fit _ _ _ _ (c .pre .0) (c .pre .1 .1) }
 
 returns : tie.Need-returns
-returns c = (overflow-law _ _ _ _ (c .before .fits .a .fits) (c .before .fits .b .fits) (c .before .pre) (c .carry .ensures .0), omega arith)
+returns c = (overflow-law _ _ _ _ (c .fits .a .fits) (c .fits .b .fits) (c .pre .0) (c .pre .1 .0), omega arith)
 
 pub overflow-spec : {M : Type 1} → statement M
-overflow-spec = tie.close (tie.spec add-into add-into-2 carry-requires add-result returns)
+overflow-spec = tie.close (tie.spec add-into add-into-2 add-result returns)

@@ -1,5 +1,5 @@
 use Rattle.cpu.specs.Alu.{rotateRightOf}
-use Rattle.cpu.specs.Choice.{if_then_else_}
+use Rattle.common.specs.Choice.{if_then_else_}
 use borrow.Author.Tests.{eq-eqb, ne-eqb}
 use borrow.Author.Needs.{needs}
 use Rattle.cpu.proofs.alu.rotate_right.Statement.{statement}

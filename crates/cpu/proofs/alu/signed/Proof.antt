@@ -1,6 +1,6 @@
 use Rattle.cpu.proofs.Signed16.{minus-back, minus-fits, small}
 use Rattle.cpu.specs.Alu.{signedOf}
-use Rattle.cpu.specs.Choice.{if_then_else_}
+use Rattle.common.specs.Choice.{if_then_else_}
 use borrow.Author.Tests.{le-ltb, lt-ltb}
 use native.Mathlib.Omega.{arith}
 use borrow.Author.Needs.{needs}

@@ -1,6 +1,6 @@
 use Rattle.cpu.proofs.Tests.{tests}
 use Rattle.cpu.specs.Alu.{testOf}
-use Rattle.cpu.specs.Choice.{if_then_else_}
+use Rattle.common.specs.Choice.{if_then_else_}
 use Rattle.cpu.proofs.alu.test.Statement.{statement}
 use Rattle.cpu.proofs.alu.test.Tie as tie
 

@@ -1,6 +1,6 @@
 use Rattle.cpu.specs.Address.{withAddress}
 use Rattle.cpu.specs.Branch.{branchedOf}
-use Rattle.cpu.specs.Choice.{if_then_else_}
+use Rattle.common.specs.Choice.{if_then_else_}
 use mathlib.Core.Path.{_∙_, sym}
 use borrow.Author.Needs.{needs}
 use Rattle.cpu.proofs.branch.branched.Statement.{statement}

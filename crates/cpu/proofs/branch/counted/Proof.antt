@@ -1,3 +1,4 @@
+use Rattle.cpu.proofs.Sums.{stepped-down}
 use Rattle.cpu.specs.Branch.{countedOf}
 use borrow.Author.Needs.{needs}
 use Rattle.cpu.proofs.branch.counted.Statement.{statement}
@@ -21,8 +22,8 @@ enum-told-2 c = search needs
 register-requires-2 : tie.Need-register-requires-2
 register-requires-2 c κs = search needs
 
-wrapping-add-u8-requires-2 : tie.Need-wrapping-add-u8-requires-2
-wrapping-add-u8-requires-2 c κs = search needs
+wrapping-sub-u8-requires : tie.Need-wrapping-sub-u8-requires
+wrapping-sub-u8-requires c κs = search needs
 
 with-register-requires-2 : tie.Need-with-register-requires-2
 with-register-requires-2 c κs = search needs
@@ -61,7 +62,7 @@ returns-2 c =
     rw (
       c .before .before .before .enum-told2 .given .1,
       ← c .before .before .register2 .ensures,
-      ← c .before .wrapping-add-u82 .ensures,
+      ← stepped-down _ (c .before .wrapping-sub-u8 .ok) (c .before .wrapping-sub-u8 .ensures),
       ← c .with-register2 .ensures,
     )
 
@@ -105,7 +106,7 @@ counted-spec =
     with-register-requires
     enum-told-2
     register-requires-2
-    wrapping-add-u8-requires-2
+    wrapping-sub-u8-requires
     with-register-requires-2
     enum-told-3
     enum-told-4

@@ -1,5 +1,5 @@
 use Rattle.cpu.specs.Branch.{jumpedOf}
-use Rattle.cpu.specs.Choice.{if_then_else_}
+use Rattle.common.specs.Choice.{if_then_else_}
 use borrow.Author.Needs.{needs}
 use Rattle.cpu.proofs.branch.jumped.Statement.{statement}
 use Rattle.cpu.proofs.branch.jumped.Tie as tie

@@ -1,6 +1,6 @@
 use Rattle.cpu.proofs.Tests.{tests}
 use Rattle.cpu.specs.Branch.{meetsOf}
-use Rattle.cpu.specs.Choice.{if_then_else_}
+use Rattle.common.specs.Choice.{if_then_else_}
 use Rattle.cpu.proofs.branch.meets.Statement.{statement}
 use Rattle.cpu.proofs.branch.meets.Tie as tie
 

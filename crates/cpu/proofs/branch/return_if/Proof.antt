@@ -1,5 +1,5 @@
 use Rattle.cpu.specs.Branch.{returnIfOf}
-use Rattle.cpu.specs.Choice.{if_then_else_}
+use Rattle.common.specs.Choice.{if_then_else_}
 use mathlib.Core.Path.{_∙_, sym}
 use borrow.Author.Needs.{needs}
 use Rattle.cpu.proofs.branch.return_if.Statement.{statement}

@@ -1,5 +1,5 @@
 use Rattle.cpu.proofs.Registers.{same-below, same-top, exchanged-below, exchanged-top}
-use Rattle.cpu.specs.Choice.{if_then_else_}
+use Rattle.common.specs.Choice.{if_then_else_}
 use Rattle.cpu.specs.Core.{bankedOf}
 use Prim.Native.Nat.{_%_, _/_}
 use mathlib.Core.Path.{_≡_, _∙_}

@@ -1,5 +1,5 @@
 use Rattle.cpu.proofs.Tests.{tests}
-use Rattle.cpu.specs.Choice.{if_then_else_}
+use Rattle.common.specs.Choice.{if_then_else_}
 use Rattle.cpu.specs.Decode.{fourOf}
 use Rattle.cpu.proofs.decode.four.Statement.{statement}
 use Rattle.cpu.proofs.decode.four.Tie as tie

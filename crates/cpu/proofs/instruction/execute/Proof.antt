@@ -16,14 +16,20 @@ enum-told-2 c = search needs
 stopped-requires-2 : tie.Need-stopped-requires-2
 stopped-requires-2 c κs = search needs
 
+enum-told-3 : tie.Need-enum-told-3
+enum-told-3 c = search needs
+
+stopped-requires-3 : tie.Need-stopped-requires-3
+stopped-requires-3 c κs = search needs
+
 enum-known-i : tie.Need-enum-known-i
 enum-known-i c = search needs
 
 with-operand-requires : tie.Need-with-operand-requires
 with-operand-requires c κs = search needs
 
-enum-told-3 : tie.Need-enum-told-3
-enum-told-3 c = search needs
+enum-told-4 : tie.Need-enum-told-4
+enum-told-4 c = search needs
 
 register-requires : tie.Need-register-requires
 register-requires c κs = search needs
@@ -37,8 +43,8 @@ loaded-requires c κs = search needs
 changed-requires : tie.Need-changed-requires
 changed-requires c κs = search needs
 
-enum-told-4 : tie.Need-enum-told-4
-enum-told-4 c = search needs
+enum-told-5 : tie.Need-enum-told-5
+enum-told-5 c = search needs
 
 advanced-requires : tie.Need-advanced-requires
 advanced-requires c κs = search needs
@@ -46,8 +52,8 @@ advanced-requires c κs = search needs
 going-requires : tie.Need-going-requires
 going-requires c κs = search needs
 
-enum-told-5 : tie.Need-enum-told-5
-enum-told-5 c = search needs
+enum-told-6 : tie.Need-enum-told-6
+enum-told-6 c = search needs
 
 advanced-requires-2 : tie.Need-advanced-requires-2
 advanced-requires-2 c κs = search needs
@@ -55,8 +61,8 @@ advanced-requires-2 c κs = search needs
 ended-requires : tie.Need-ended-requires
 ended-requires c κs = search needs
 
-enum-told-6 : tie.Need-enum-told-6
-enum-told-6 c = search needs
+enum-told-7 : tie.Need-enum-told-7
+enum-told-7 c = search needs
 
 sensed-requires : tie.Need-sensed-requires
 sensed-requires c κs = search needs
@@ -70,8 +76,8 @@ loaded-requires-2 c κs = search needs
 changed-requires-2 : tie.Need-changed-requires-2
 changed-requires-2 c κs = search needs
 
-enum-told-7 : tie.Need-enum-told-7
-enum-told-7 c = search needs
+enum-told-8 : tie.Need-enum-told-8
+enum-told-8 c = search needs
 
 psl-requires-3 : tie.Need-psl-requires-3
 psl-requires-3 c κs = search needs
@@ -82,8 +88,8 @@ loaded-requires-3 c κs = search needs
 changed-requires-3 : tie.Need-changed-requires-3
 changed-requires-3 c κs = search needs
 
-enum-told-8 : tie.Need-enum-told-8
-enum-told-8 c = search needs
+enum-told-9 : tie.Need-enum-told-9
+enum-told-9 c = search needs
 
 register-requires-2 : tie.Need-register-requires-2
 register-requires-2 c κs = search needs
@@ -100,8 +106,8 @@ advanced-requires-3 c κs = search needs
 going-requires-2 : tie.Need-going-requires-2
 going-requires-2 c κs = search needs
 
-enum-told-9 : tie.Need-enum-told-9
-enum-told-9 c = search needs
+enum-told-10 : tie.Need-enum-told-10
+enum-told-10 c = search needs
 
 register-requires-3 : tie.Need-register-requires-3
 register-requires-3 c κs = search needs
@@ -115,32 +121,32 @@ advanced-requires-4 c κs = search needs
 going-requires-3 : tie.Need-going-requires-3
 going-requires-3 c κs = search needs
 
-enum-told-10 : tie.Need-enum-told-10
-enum-told-10 c = search needs
+enum-told-11 : tie.Need-enum-told-11
+enum-told-11 c = search needs
 
 clear-psu-requires : tie.Need-clear-psu-requires
 clear-psu-requires c κs = search needs
 
-enum-told-11 : tie.Need-enum-told-11
-enum-told-11 c = search needs
+enum-told-12 : tie.Need-enum-told-12
+enum-told-12 c = search needs
 
 clear-psl-requires : tie.Need-clear-psl-requires
 clear-psl-requires c κs = search needs
 
-enum-told-12 : tie.Need-enum-told-12
-enum-told-12 c = search needs
+enum-told-13 : tie.Need-enum-told-13
+enum-told-13 c = search needs
 
 preset-psu-requires : tie.Need-preset-psu-requires
 preset-psu-requires c κs = search needs
 
-enum-told-13 : tie.Need-enum-told-13
-enum-told-13 c = search needs
+enum-told-14 : tie.Need-enum-told-14
+enum-told-14 c = search needs
 
 preset-psl-requires : tie.Need-preset-psl-requires
 preset-psl-requires c κs = search needs
 
-enum-told-14 : tie.Need-enum-told-14
-enum-told-14 c = search needs
+enum-told-15 : tie.Need-enum-told-15
+enum-told-15 c = search needs
 
 sensed-requires-2 : tie.Need-sensed-requires-2
 sensed-requires-2 c κs = search needs
@@ -148,8 +154,8 @@ sensed-requires-2 c κs = search needs
 tested-requires : tie.Need-tested-requires
 tested-requires c κs = search needs
 
-enum-told-15 : tie.Need-enum-told-15
-enum-told-15 c = search needs
+enum-told-16 : tie.Need-enum-told-16
+enum-told-16 c = search needs
 
 psl-requires-4 : tie.Need-psl-requires-4
 psl-requires-4 c κs = search needs
@@ -157,8 +163,8 @@ psl-requires-4 c κs = search needs
 tested-requires-2 : tie.Need-tested-requires-2
 tested-requires-2 c κs = search needs
 
-enum-told-16 : tie.Need-enum-told-16
-enum-told-16 c = search needs
+enum-told-17 : tie.Need-enum-told-17
+enum-told-17 c = search needs
 
 register-requires-4 : tie.Need-register-requires-4
 register-requires-4 c κs = search needs
@@ -166,8 +172,8 @@ register-requires-4 c κs = search needs
 tested-requires-3 : tie.Need-tested-requires-3
 tested-requires-3 c κs = search needs
 
-enum-told-17 : tie.Need-enum-told-17
-enum-told-17 c = search needs
+enum-told-18 : tie.Need-enum-told-18
+enum-told-18 c = search needs
 
 register-requires-5 : tie.Need-register-requires-5
 register-requires-5 c κs = search needs
@@ -181,8 +187,8 @@ decimal-requires c κs = search needs
 changed-requires-4 : tie.Need-changed-requires-4
 changed-requires-4 c κs = search needs
 
-enum-told-18 : tie.Need-enum-told-18
-enum-told-18 c = search needs
+enum-told-19 : tie.Need-enum-told-19
+enum-told-19 c = search needs
 
 register-requires-6 : tie.Need-register-requires-6
 register-requires-6 c κs = search needs
@@ -196,8 +202,8 @@ rotate-right-requires c κs = search needs
 changed-requires-5 : tie.Need-changed-requires-5
 changed-requires-5 c κs = search needs
 
-enum-told-19 : tie.Need-enum-told-19
-enum-told-19 c = search needs
+enum-told-20 : tie.Need-enum-told-20
+enum-told-20 c = search needs
 
 register-requires-7 : tie.Need-register-requires-7
 register-requires-7 c κs = search needs
@@ -211,26 +217,26 @@ rotate-left-requires c κs = search needs
 changed-requires-6 : tie.Need-changed-requires-6
 changed-requires-6 c κs = search needs
 
-enum-told-20 : tie.Need-enum-told-20
-enum-told-20 c = search needs
+enum-told-21 : tie.Need-enum-told-21
+enum-told-21 c = search needs
 
 read-requires : tie.Need-read-requires
 read-requires c κs = search needs
 
-enum-told-21 : tie.Need-enum-told-21
-enum-told-21 c = search needs
+enum-told-22 : tie.Need-enum-told-22
+enum-told-22 c = search needs
 
 write-requires : tie.Need-write-requires
 write-requires c κs = search needs
 
-enum-told-22 : tie.Need-enum-told-22
-enum-told-22 c = search needs
+enum-told-23 : tie.Need-enum-told-23
+enum-told-23 c = search needs
 
 return-if-requires : tie.Need-return-if-requires
 return-if-requires c κs = search needs
 
-enum-told-23 : tie.Need-enum-told-23
-enum-told-23 c = search needs
+enum-told-24 : tie.Need-enum-told-24
+enum-told-24 c = search needs
 
 return-enable-requires : tie.Need-return-enable-requires
 return-enable-requires c κs = search needs
@@ -241,26 +247,26 @@ enum-known-i-2 c = search needs
 branch-requires : tie.Need-branch-requires
 branch-requires c κs = search needs
 
-enum-told-24 : tie.Need-enum-told-24
-enum-told-24 c = search needs
+enum-told-25 : tie.Need-enum-told-25
+enum-told-25 c = search needs
 
 zero-branch-requires : tie.Need-zero-branch-requires
 zero-branch-requires c κs = search needs
 
-enum-told-25 : tie.Need-enum-told-25
-enum-told-25 c = search needs
+enum-told-26 : tie.Need-enum-told-26
+enum-told-26 c = search needs
 
 zero-branch-requires-2 : tie.Need-zero-branch-requires-2
 zero-branch-requires-2 c κs = search needs
 
-enum-told-26 : tie.Need-enum-told-26
-enum-told-26 c = search needs
+enum-told-27 : tie.Need-enum-told-27
+enum-told-27 c = search needs
 
 indexed-branch-requires : tie.Need-indexed-branch-requires
 indexed-branch-requires c κs = search needs
 
-enum-told-27 : tie.Need-enum-told-27
-enum-told-27 c = search needs
+enum-told-28 : tie.Need-enum-told-28
+enum-told-28 c = search needs
 
 indexed-branch-requires-2 : tie.Need-indexed-branch-requires-2
 indexed-branch-requires-2 c κs = search needs
@@ -285,28 +291,27 @@ returns-3 : tie.Need-returns-3
 unfolding executeOf offeredOf
 returns-3 c =
     rw (
-      c .before .before .i .given .1,
-      ← c .with-operand .ensures,
+      c .before .enum-told3 .given .1,
+      ← c .stopped3 .ensures,
     )
 
 returns-4 : tie.Need-returns-4
 unfolding executeOf offeredOf
 returns-4 c =
     rw (
-      c .before .before .before .before .enum-told3 .given .1,
-      ← c .before .before .before .register .ensures,
-      ← c .before .before .psl .ensures,
-      ← c .before .loaded .ensures .0,
-      ← c .changed .ensures,
+      c .before .before .i .given .1,
+      ← c .with-operand .ensures,
     )
 
 returns-5 : tie.Need-returns-5
 unfolding executeOf offeredOf
 returns-5 c =
     rw (
-      c .before .before .enum-told4 .given .1,
-      ← c .before .advanced .ensures,
-      ← c .going .ensures,
+      c .before .before .before .before .enum-told4 .given .1,
+      ← c .before .before .before .register .ensures,
+      ← c .before .before .psl .ensures,
+      ← c .before .loaded .ensures .0,
+      ← c .changed .ensures,
     )
 
 returns-6 : tie.Need-returns-6
@@ -314,36 +319,45 @@ unfolding executeOf offeredOf
 returns-6 c =
     rw (
       c .before .before .enum-told5 .given .1,
-      ← c .before .advanced2 .ensures,
-      ← c .ended .ensures,
+      ← c .before .advanced .ensures,
+      ← c .going .ensures,
     )
 
 returns-7 : tie.Need-returns-7
 unfolding executeOf offeredOf
 returns-7 c =
     rw (
-      c .before .before .before .before .enum-told6 .given .1,
-      ← c .before .before .before .sensed .ensures,
-      ← c .before .before .psl2 .ensures,
-      ← c .before .loaded2 .ensures .0,
-      ← c .changed2 .ensures,
+      c .before .before .enum-told6 .given .1,
+      ← c .before .advanced2 .ensures,
+      ← c .ended .ensures,
     )
 
 returns-8 : tie.Need-returns-8
 unfolding executeOf offeredOf
 returns-8 c =
     rw (
-      c .before .before .before .enum-told7 .given .1,
-      ← c .before .before .psl3 .ensures,
-      ← c .before .loaded3 .ensures .0,
-      ← c .changed3 .ensures,
+      c .before .before .before .before .enum-told7 .given .1,
+      ← c .before .before .before .sensed .ensures,
+      ← c .before .before .psl2 .ensures,
+      ← c .before .loaded2 .ensures .0,
+      ← c .changed2 .ensures,
     )
 
 returns-9 : tie.Need-returns-9
 unfolding executeOf offeredOf
 returns-9 c =
     rw (
-      c .before .before .before .before .before .enum-told8 .given .1,
+      c .before .before .before .enum-told8 .given .1,
+      ← c .before .before .psl3 .ensures,
+      ← c .before .loaded3 .ensures .0,
+      ← c .changed3 .ensures,
+    )
+
+returns-10 : tie.Need-returns-10
+unfolding executeOf offeredOf
+returns-10 c =
+    rw (
+      c .before .before .before .before .before .enum-told9 .given .1,
       ← c .before .before .before .before .register2 .ensures,
       ← c .before .before .before .stored .ensures,
       ← c .before .before .with-psu .ensures,
@@ -351,23 +365,15 @@ returns-9 c =
       ← c .going2 .ensures,
     )
 
-returns-10 : tie.Need-returns-10
-unfolding executeOf offeredOf
-returns-10 c =
-    rw (
-      c .before .before .before .before .enum-told9 .given .1,
-      ← c .before .before .before .register3 .ensures,
-      ← c .before .before .with-psl .ensures,
-      ← c .before .advanced4 .ensures,
-      ← c .going3 .ensures,
-    )
-
 returns-11 : tie.Need-returns-11
 unfolding executeOf offeredOf
 returns-11 c =
     rw (
-      c .before .enum-told10 .given .1,
-      ← c .clear-psu .ensures,
+      c .before .before .before .before .enum-told10 .given .1,
+      ← c .before .before .before .register3 .ensures,
+      ← c .before .before .with-psl .ensures,
+      ← c .before .advanced4 .ensures,
+      ← c .going3 .ensures,
     )
 
 returns-12 : tie.Need-returns-12
@@ -375,7 +381,7 @@ unfolding executeOf offeredOf
 returns-12 c =
     rw (
       c .before .enum-told11 .given .1,
-      ← c .clear-psl .ensures,
+      ← c .clear-psu .ensures,
     )
 
 returns-13 : tie.Need-returns-13
@@ -383,7 +389,7 @@ unfolding executeOf offeredOf
 returns-13 c =
     rw (
       c .before .enum-told12 .given .1,
-      ← c .preset-psu .ensures,
+      ← c .clear-psl .ensures,
     )
 
 returns-14 : tie.Need-returns-14
@@ -391,16 +397,15 @@ unfolding executeOf offeredOf
 returns-14 c =
     rw (
       c .before .enum-told13 .given .1,
-      ← c .preset-psl .ensures,
+      ← c .preset-psu .ensures,
     )
 
 returns-15 : tie.Need-returns-15
 unfolding executeOf offeredOf
 returns-15 c =
     rw (
-      c .before .before .enum-told14 .given .1,
-      ← c .before .sensed2 .ensures,
-      ← c .tested .ensures,
+      c .before .enum-told14 .given .1,
+      ← c .preset-psl .ensures,
     )
 
 returns-16 : tie.Need-returns-16
@@ -408,8 +413,8 @@ unfolding executeOf offeredOf
 returns-16 c =
     rw (
       c .before .before .enum-told15 .given .1,
-      ← c .before .psl4 .ensures,
-      ← c .tested2 .ensures,
+      ← c .before .sensed2 .ensures,
+      ← c .tested .ensures,
     )
 
 returns-17 : tie.Need-returns-17
@@ -417,19 +422,17 @@ unfolding executeOf offeredOf
 returns-17 c =
     rw (
       c .before .before .enum-told16 .given .1,
-      ← c .before .register4 .ensures,
-      ← c .tested3 .ensures,
+      ← c .before .psl4 .ensures,
+      ← c .tested2 .ensures,
     )
 
 returns-18 : tie.Need-returns-18
 unfolding executeOf offeredOf
 returns-18 c =
     rw (
-      c .before .before .before .before .enum-told17 .given .1,
-      ← c .before .before .before .register5 .ensures,
-      ← c .before .before .psl5 .ensures,
-      ← c .before .decimal .ensures .0,
-      ← c .changed4 .ensures,
+      c .before .before .enum-told17 .given .1,
+      ← c .before .register4 .ensures,
+      ← c .tested3 .ensures,
     )
 
 returns-19 : tie.Need-returns-19
@@ -437,10 +440,10 @@ unfolding executeOf offeredOf
 returns-19 c =
     rw (
       c .before .before .before .before .enum-told18 .given .1,
-      ← c .before .before .before .register6 .ensures,
-      ← c .before .before .psl6 .ensures,
-      ← c .before .rotate-right .ensures .0,
-      ← c .changed5 .ensures,
+      ← c .before .before .before .register5 .ensures,
+      ← c .before .before .psl5 .ensures,
+      ← c .before .decimal .ensures .0,
+      ← c .changed4 .ensures,
     )
 
 returns-20 : tie.Need-returns-20
@@ -448,18 +451,21 @@ unfolding executeOf offeredOf
 returns-20 c =
     rw (
       c .before .before .before .before .enum-told19 .given .1,
-      ← c .before .before .before .register7 .ensures,
-      ← c .before .before .psl7 .ensures,
-      ← c .before .rotate-left .ensures .0,
-      ← c .changed6 .ensures,
+      ← c .before .before .before .register6 .ensures,
+      ← c .before .before .psl6 .ensures,
+      ← c .before .rotate-right .ensures .0,
+      ← c .changed5 .ensures,
     )
 
 returns-21 : tie.Need-returns-21
 unfolding executeOf offeredOf
 returns-21 c =
     rw (
-      c .before .enum-told20 .given .1,
-      ← c .read .ensures,
+      c .before .before .before .before .enum-told20 .given .1,
+      ← c .before .before .before .register7 .ensures,
+      ← c .before .before .psl7 .ensures,
+      ← c .before .rotate-left .ensures .0,
+      ← c .changed6 .ensures,
     )
 
 returns-22 : tie.Need-returns-22
@@ -467,7 +473,7 @@ unfolding executeOf offeredOf
 returns-22 c =
     rw (
       c .before .enum-told21 .given .1,
-      ← c .write .ensures,
+      ← c .read .ensures,
     )
 
 returns-23 : tie.Need-returns-23
@@ -475,7 +481,7 @@ unfolding executeOf offeredOf
 returns-23 c =
     rw (
       c .before .enum-told22 .given .1,
-      ← c .return-if .ensures,
+      ← c .write .ensures,
     )
 
 returns-24 : tie.Need-returns-24
@@ -483,23 +489,23 @@ unfolding executeOf offeredOf
 returns-24 c =
     rw (
       c .before .enum-told23 .given .1,
-      ← c .return-enable .ensures,
+      ← c .return-if .ensures,
     )
 
 returns-25 : tie.Need-returns-25
 unfolding executeOf offeredOf
 returns-25 c =
     rw (
-      c .before .before .i2 .given .1,
-      ← c .branch .ensures,
+      c .before .enum-told24 .given .1,
+      ← c .return-enable .ensures,
     )
 
 returns-26 : tie.Need-returns-26
 unfolding executeOf offeredOf
 returns-26 c =
     rw (
-      c .before .enum-told24 .given .1,
-      ← c .zero-branch .ensures,
+      c .before .before .i2 .given .1,
+      ← c .branch .ensures,
     )
 
 returns-27 : tie.Need-returns-27
@@ -507,7 +513,7 @@ unfolding executeOf offeredOf
 returns-27 c =
     rw (
       c .before .enum-told25 .given .1,
-      ← c .zero-branch2 .ensures,
+      ← c .zero-branch .ensures,
     )
 
 returns-28 : tie.Need-returns-28
@@ -515,7 +521,7 @@ unfolding executeOf offeredOf
 returns-28 c =
     rw (
       c .before .enum-told26 .given .1,
-      ← c .indexed-branch .ensures,
+      ← c .zero-branch2 .ensures,
     )
 
 returns-29 : tie.Need-returns-29
@@ -523,6 +529,14 @@ unfolding executeOf offeredOf
 returns-29 c =
     rw (
       c .before .enum-told27 .given .1,
+      ← c .indexed-branch .ensures,
+    )
+
+returns-30 : tie.Need-returns-30
+unfolding executeOf offeredOf
+returns-30 c =
+    rw (
+      c .before .enum-told28 .given .1,
       ← c .indexed-branch2 .ensures,
     )
 
@@ -534,88 +548,90 @@ execute-spec =
     stopped-requires
     enum-told-2
     stopped-requires-2
+    enum-told-3
+    stopped-requires-3
     enum-known-i
     with-operand-requires
-    enum-told-3
+    enum-told-4
     register-requires
     psl-requires
     loaded-requires
     changed-requires
-    enum-told-4
+    enum-told-5
     advanced-requires
     going-requires
-    enum-told-5
+    enum-told-6
     advanced-requires-2
     ended-requires
-    enum-told-6
+    enum-told-7
     sensed-requires
     psl-requires-2
     loaded-requires-2
     changed-requires-2
-    enum-told-7
+    enum-told-8
     psl-requires-3
     loaded-requires-3
     changed-requires-3
-    enum-told-8
+    enum-told-9
     register-requires-2
     stored-requires
     with-psu-requires
     advanced-requires-3
     going-requires-2
-    enum-told-9
+    enum-told-10
     register-requires-3
     with-psl-requires
     advanced-requires-4
     going-requires-3
-    enum-told-10
-    clear-psu-requires
     enum-told-11
-    clear-psl-requires
+    clear-psu-requires
     enum-told-12
-    preset-psu-requires
+    clear-psl-requires
     enum-told-13
-    preset-psl-requires
+    preset-psu-requires
     enum-told-14
+    preset-psl-requires
+    enum-told-15
     sensed-requires-2
     tested-requires
-    enum-told-15
+    enum-told-16
     psl-requires-4
     tested-requires-2
-    enum-told-16
+    enum-told-17
     register-requires-4
     tested-requires-3
-    enum-told-17
+    enum-told-18
     register-requires-5
     psl-requires-5
     decimal-requires
     changed-requires-4
-    enum-told-18
+    enum-told-19
     register-requires-6
     psl-requires-6
     rotate-right-requires
     changed-requires-5
-    enum-told-19
+    enum-told-20
     register-requires-7
     psl-requires-7
     rotate-left-requires
     changed-requires-6
-    enum-told-20
-    read-requires
     enum-told-21
-    write-requires
+    read-requires
     enum-told-22
-    return-if-requires
+    write-requires
     enum-told-23
+    return-if-requires
+    enum-told-24
     return-enable-requires
     enum-known-i-2
     branch-requires
-    enum-told-24
-    zero-branch-requires
     enum-told-25
-    zero-branch-requires-2
+    zero-branch-requires
     enum-told-26
-    indexed-branch-requires
+    zero-branch-requires-2
     enum-told-27
+    indexed-branch-requires
+    enum-told-28
     indexed-branch-requires-2
     returns
     returns-2
@@ -645,4 +661,5 @@ execute-spec =
     returns-26
     returns-27
     returns-28
-    returns-29)
+    returns-29
+    returns-30)

@@ -1,9 +1,11 @@
 use Prim.Native.Nat.{_+_, _-_, _<_, _≤_, ℕ}
 use Rattle.cpu.proofs.Parting.{beyond-law, end-law, once, parts-inside, positions-law, status-at, view-law}
 use Rattle.cpu.specs.Core.{cpuOf}
-use Rattle.cpu.specs.Machine.{Machine, machineOf, machineStep, times}
+use Rattle.cpu.specs.Machine.{Machine, withCpu, withStatus, withRead, withWritten, machineOf, machineStep}
+use Rattle.common.specs.Repetition.{times}
 use Rattle.cpu.specs.Partition.{Parts, machineAt, settled}
-use Rattle.cpu.specs.Times.{times-add, times-rests, times-suc}
+use Rattle.cpu.specs.Times.{times-rests}
+use Rattle.common.specs.RepetitionLaws.{times-add, times-suc}
 use lib.ListN.{drop, length}
 use mathlib.Core.Logic.{⊎-elim}
 use mathlib.Core.Path.{_∙_, _≡_, ap, refl, subst, sym}
@@ -16,7 +18,7 @@ use Rattle.cpu.proofs.machine.run.Statement.{statement}
 use Rattle.cpu.proofs.machine.run.Tie as tie
 
 abbrev Inv-loop : tie.InvT-loop
-Inv-loop state partition₀ steps b core₀ status₀ k₀ i₀ partition core status k i = (i ≤ steps) × (length partition ≡ length partition₀) × (k .read < 65536) × (k .written < 65536) × (machineAt b (cpuOf core) status k partition ≡ times i machineStep (machineAt b (cpuOf core₀) status₀ k₀ partition₀)) × (drop (b .end) partition ≡ drop (b .end) partition₀)
+Inv-loop state partition₀ steps b core₀ status₀ k₀ i₀ partition core status k i = (i ≤ steps) × (length partition ≡ length partition₀) × (k .read < 65536) × (k .written < 65536) × (machineAt state b (cpuOf core) status k partition ≡ times i machineStep (machineAt state b (cpuOf core₀) status₀ k₀ partition₀)) × (drop (b .end) partition ≡ drop (b .end) partition₀)
 
 abbrev μ-loop : tie.MeasureT-loop
 μ-loop state partition₀ steps b core₀ status₀ k₀ i₀ partition core status k i = steps - i
@@ -70,7 +72,7 @@ loop-again c = let here = c .before .before .before .before .before .before .bef
       put .kept .0 ∙ here .inv .1,
       low .0,
       low .1,
-      once (start .result) (here .core) (here .status) (here .k) (here .partition) q (c .before .before .before .before .before .before .before .if1 .left) (went .result) (went .ensures) (put .result) _ (put .ensures)
+      once (c .before .before .before .before .before .before .before .before .before .before .before .before .before .before .before .args .state) (start .result) (here .core) (here .status) (here .k) (here .partition) q (c .before .before .before .before .before .before .before .if1 .left) (went .result) (went .ensures) (put .result) _ (put .ensures)
           ∙ ap machineStep (here .inv .4)
           ∙ sym (times-suc machineStep (here .i) _),
       beyond-law (went .result .effect) (start .result) (here .k) (here .partition) _ q (settled (put .result) _) (put .ensures) ∙ here .inv .5,
@@ -79,11 +81,11 @@ loop-again c = let here = c .before .before .before .before .before .before .bef
 unpack-requires : tie.Need-unpack-requires Inv-loop μ-loop
 unpack-requires c κs = search needs
 
-cast-t22 : tie.Need-cast-t22 Inv-loop μ-loop
-cast-t22 c = record { fits = c .before .before .before .loop .inv .2 }
+cast-next : tie.Need-cast-next Inv-loop μ-loop
+cast-next c = record { fits = c .before .before .before .loop .inv .2 }
 
-cast-t23 : tie.Need-cast-t23 Inv-loop μ-loop
-cast-t23 c = record { fits = c .before .before .before .before .loop .inv .3 }
+cast-next-2 : tie.Need-cast-next-2 Inv-loop μ-loop
+cast-next-2 c = record { fits = c .before .before .before .before .loop .inv .3 }
 
 same-length : tie.Need-same-length Inv-loop μ-loop
 same-length c = c .before .before .before .before .loop .inv .1
@@ -93,8 +95,8 @@ returns c = let here = c .before .before .before .before .loop in
     let args = c .before .before .before .before .before .before .before .before .before .before .args in
     let start = c .before .before .before .before .before .before .before .before .parted in
     let k₀ : Positions = record { read = args .state .read; written = args .state .written } in
-    let before = machineAt (start .result) (cpuOf (c .before .before .before .before .before .before .before .pack .result)) (args .state .status) k₀ (args .partition .now) in
-    let after = machineAt (start .result) (cpuOf (here .core)) (here .status) (here .k) (here .partition) in
+    let before = machineAt (args .state) (start .result) (cpuOf (c .before .before .before .before .before .before .before .pack .result)) (args .state .status) k₀ (args .partition .now) in
+    let after = machineAt (args .state) (start .result) (cpuOf (here .core)) (here .status) (here .k) (here .partition) in
     let most : here .i ≤ args .steps = here .inv .0 in
     let done : after ≡ times (args .steps) machineStep before =
     ⊎-elim
@@ -102,18 +104,18 @@ returns c = let here = c .before .before .before .before .loop in
     (λ w.
     let h : (args .steps - here .i) + here .i ≡ args .steps = omega arith in
     here .inv .4
-    ∙ sym (times-rests (args .steps - here .i) _ (λ e. w .1 .taken (sym (status-at _ _ _ _ _) ∙ ap (λ (m : Machine). m .status) (here .inv .4) ∙ e)))
+    ∙ sym (times-rests (args .steps - here .i) _ (λ e. w .1 .taken (sym (status-at _ _ _ _ _ _) ∙ ap (λ (m : Machine). m .state .status) (here .inv .4) ∙ e)))
     ∙ sym (times-add machineStep (args .steps - here .i) (here .i) before)
     ∙ ap (λ (n : ℕ). times n machineStep before) h)
     (c .before .before .before .loop-test .came) in
-    let first : before ≡ machineOf (args .sizes) (args .state) (args .partition .now) =
-    ap (λ (n : Cpu). machineAt (start .result) n (args .state .status) k₀ (args .partition .now)) (c .before .before .before .before .before .before .before .pack .ensures)
-    ∙ view-law (args .sizes) (args .state) (start .result) _ k₀ (args .partition .now) (start .ensures .0) refl refl in
-    let s : State = record { cpu = c .before .before .unpack .result; status = here .status; filled = args .state .filled; read = here .k .read; written = here .k .written } in
-    let last : machineOf (args .sizes) s (here .partition) ≡ after =
-    sym (view-law (args .sizes) s (start .result) _ (here .k) (here .partition) (start .ensures .0) refl refl)
-    ∙ ap (λ (n : Cpu). machineAt (start .result) n (here .status) (here .k) (here .partition)) (c .before .before .unpack .ensures) in
-    let past : start .result .end ≡ args .sizes .window + args .sizes .input + args .sizes .output = end-law _ _ _ _ _ _ (start .ensures .0) in (
+    let first : before ≡ machineOf (args .layout) (args .state) (args .partition .now) =
+    ap (λ (n : Cpu). machineAt (args .state) (start .result) n (args .state .status) k₀ (args .partition .now)) (c .before .before .before .before .before .before .before .pack .ensures)
+    ∙ view-law (args .layout) (args .state) (args .state) (start .result) _ k₀ (args .partition .now) (start .ensures .0) refl in
+    let s : State = withWritten (here .k .written) (withRead (here .k .read) (withStatus (here .status) (withCpu (c .before .before .unpack .result) (args .state)))) in
+    let last : machineOf (args .layout) s (here .partition) ≡ after =
+    sym (view-law (args .layout) (args .state) s (start .result) _ (here .k) (here .partition) (start .ensures .0) refl)
+    ∙ ap (λ (n : Cpu). machineAt (args .state) (start .result) n (here .status) (here .k) (here .partition)) (c .before .before .unpack .ensures) in
+    let past : start .result .end ≡ args .layout .window + args .layout .input + args .layout .output = end-law _ _ _ _ _ _ (start .ensures .0) in (
       last ∙ done ∙ ap (times (args .steps) machineStep) first,
       ap (λ (n : ℕ). drop n (here .partition)) (sym past) ∙ here .inv .5 ∙ ap (λ (n : ℕ). drop n (args .partition .now)) past,
     )
@@ -135,7 +137,7 @@ run-spec =
     loop-less
     loop-again
     unpack-requires
-    cast-t22
-    cast-t23
+    cast-next
+    cast-next-2
     same-length
     returns)

@@ -1,5 +1,5 @@
 use Rattle.cpu.specs.Machine.{machineStep}
-use Rattle.cpu.specs.Times.{times-one}
+use Rattle.common.specs.RepetitionLaws.{times-one}
 use mathlib.Core.Path.{_∙_}
 use borrow.Author.Needs.{needs}
 use Rattle.cpu.proofs.machine.step.Statement.{statement}

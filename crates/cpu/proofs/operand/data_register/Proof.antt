@@ -1,5 +1,5 @@
 use Rattle.cpu.proofs.Tests.{tests}
-use Rattle.cpu.specs.Choice.{if_then_else_}
+use Rattle.common.specs.Choice.{if_then_else_}
 use Rattle.cpu.specs.Operand.{dataRegisterOf}
 use native.Mathlib.Omega.{arith}
 use Rattle.cpu.proofs.operand.data_register.Statement.{statement}

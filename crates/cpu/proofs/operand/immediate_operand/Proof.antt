@@ -1,5 +1,5 @@
 use Rattle.cpu.specs.Address.{withByte}
-use Rattle.cpu.specs.Choice.{if_then_else_}
+use Rattle.common.specs.Choice.{if_then_else_}
 use Rattle.cpu.specs.Operand.{dataRegisterOf, immediateOperandOf}
 use mathlib.Core.Path.{_∙_, sym}
 use borrow.Author.Needs.{needs}

@@ -1,6 +1,8 @@
+use Rattle.cpu.proofs.Sums.{stepped-down}
 use Rattle.cpu.proofs.Tests.{tests}
-use Rattle.cpu.specs.Choice.{if_then_else_}
+use Rattle.common.specs.Choice.{if_then_else_}
 use Rattle.cpu.specs.Operand.{indexOf}
+use borrow.Author.Tests.{eq-eqb, ne-eqb}
 use borrow.Author.Needs.{needs}
 use Rattle.cpu.proofs.operand.index.Statement.{statement}
 use Rattle.cpu.proofs.operand.index.Tie as tie
@@ -8,8 +10,8 @@ use Rattle.cpu.proofs.operand.index.Tie as tie
 wrapping-add-u8-requires : tie.Need-wrapping-add-u8-requires
 wrapping-add-u8-requires c κs = search needs
 
-wrapping-add-u8-requires-2 : tie.Need-wrapping-add-u8-requires-2
-wrapping-add-u8-requires-2 c κs = search needs
+wrapping-sub-u8-requires : tie.Need-wrapping-sub-u8-requires
+wrapping-sub-u8-requires c κs = search needs
 
 returns : tie.Need-returns
 unfolding indexOf if_then_else_
@@ -21,7 +23,12 @@ returns-2 c = search tests
 
 returns-3 : tie.Need-returns-3
 unfolding indexOf if_then_else_
-returns-3 c = search tests
+returns-3 c =
+    rw (
+      ne-eqb _ _ (c .before .before .before .if1 .left),
+      ne-eqb _ _ (c .before .before .if2 .left),
+      eq-eqb _ _ (c .before .if3 .taken),
+    ) (stepped-down _ (c .wrapping-sub-u8 .ok) (c .wrapping-sub-u8 .ensures))
 
 returns-4 : tie.Need-returns-4
 unfolding indexOf if_then_else_
@@ -32,7 +39,7 @@ index-spec =
     tie.close
     (tie.spec
     wrapping-add-u8-requires
-    wrapping-add-u8-requires-2
+    wrapping-sub-u8-requires
     returns
     returns-2
     returns-3

@@ -1,4 +1,4 @@
-use Rattle.cpu.specs.Choice.{if_then_else_}
+use Rattle.common.specs.Choice.{if_then_else_}
 use Rattle.cpu.specs.Operand.{dataRegisterOf, registerOperandOf}
 use borrow.Author.Needs.{needs}
 use Rattle.cpu.proofs.operand.register_operand.Statement.{statement}

@@ -1,4 +1,4 @@
-use Rattle.cpu.specs.Choice.{if_then_else_}
+use Rattle.common.specs.Choice.{if_then_else_}
 use Rattle.cpu.specs.Core.{offeredOf}
 use Rattle.cpu.specs.Port.{readOf}
 use borrow.Author.Needs.{needs}

@@ -1,6 +1,6 @@
 use Prim.Native.Nat.{_%_}
 use Rattle.cpu.proofs.Registers.{put-byte-out}
-use Rattle.cpu.specs.Choice.{if_then_else_}
+use Rattle.common.specs.Choice.{if_then_else_}
 use Rattle.cpu.specs.Core.{offeredOf}
 use Rattle.cpu.specs.Port.{writeOf}
 use mathlib.Core.Path.{_≡_}

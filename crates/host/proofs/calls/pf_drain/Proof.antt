@@ -1,10 +1,10 @@
 use denote.Ref.{now}
 use lib.ListN.{length}
 use native.Mathlib.Omega.{arith}
-use Rattle.supervisor.specs.Events.{drain}
+use Rattle.supervisor.specs.Calls.{change, drain, drainedCount}
 use Rattle.supervisor.specs.Operations.{system}
-use Rattle.host.specs.Calls.{countOf}
-use Rattle.host.proofs.Settling.{other-length, settled, drained-few, buffer-left, buffer-drained}
+use Rattle.host.specs.Calls.{lent}
+use Rattle.host.proofs.Settling.{other-length, settled, drained-few, drained-count, buffer-left, buffer-drained}
 use borrow.Author.Needs.{needs}
 use Rattle.host.proofs.calls.pf_drain.Statement.{statement}
 use Rattle.host.proofs.calls.pf_drain.Tie as tie
@@ -14,7 +14,7 @@ answer-requires c κs = search needs
 
 returns : tie.Need-returns
 returns c = (
-  other-length (drain (c .before .before .before .before .before .args .slot) (length (now (c .before .before .before .before .before .args .buffer)))) (now (c .before .before .before .before .before .args .table)) (now (c .before .before .before .before .before .args .memory)) _ (c .before .if1 .taken) (c .answer .ensures),
+  other-length (drainedCount (lent (now (c .before .before .before .before .before .args .table)) (now (c .before .before .before .before .before .args .memory))) (c .before .before .before .before .before .args .slot) (length (now (c .before .before .before .before .before .args .buffer)))) (change (c .before .before .before .before .before .args .slot) (drain (length (now (c .before .before .before .before .before .args .buffer))))) (now (c .before .before .before .before .before .args .table)) (now (c .before .before .before .before .before .args .memory)) _ (c .before .if1 .taken) (c .answer .ensures),
   buffer-left (now (c .before .before .before .before .before .args .table)) (now (c .before .before .before .before .before .args .memory)) (c .before .before .before .before .before .args .slot) (now (c .before .before .before .before .before .args .buffer)) (c .before .if1 .taken),
 )
 
@@ -40,9 +40,8 @@ same-length-2 : tie.Need-same-length-2
 same-length-2 c = search needs
 
 returns-2 : tie.Need-returns-2
-unfolding countOf
 returns-2 c = (
-  settled (drain (c .before .before .before .before .before .before .before .before .before .before .before .before .before .before .before .before .before .args .slot) (length (now (c .before .before .before .before .before .before .before .before .before .before .before .before .before .before .before .before .before .args .buffer)))) (now (c .before .before .before .before .before .before .before .before .before .before .before .before .before .before .before .before .before .args .table)) (now (c .before .before .before .before .before .before .before .before .before .before .before .before .before .before .before .before .before .args .memory)) (c .before .before .before .before .before .before .before .before .before .before .before .decode-table .result) (c .before .before .before .before .before .before .before .before .before .drain .result .refusal) (c .before .before .before .before .before .before .before .before .before .drain .result .table) _ (c .before .before .before .before .before .before .before .before .before .before .before .before .before .if1 .left) (c .before .before .before .before .before .before .before .before .before .before .before .decode-table .ensures) (c .before .before .before .before .before .before .before .before .before .drain .ensures .0) (c .before .before .before .before .before .before .before .before .before .drain .result .count) _ _ (c .before .before .before .before .before .before .before .before .before .drain .ensures .1 .0) (c .answer2 .ensures) (c .before .before .before .before .store .ensures),
+  settled (change (c .before .before .before .before .before .before .before .before .before .before .before .before .before .before .before .before .before .args .slot) (drain (length (now (c .before .before .before .before .before .before .before .before .before .before .before .before .before .before .before .before .before .args .buffer))))) (now (c .before .before .before .before .before .before .before .before .before .before .before .before .before .before .before .before .before .args .table)) (now (c .before .before .before .before .before .before .before .before .before .before .before .before .before .before .before .before .before .args .memory)) (c .before .before .before .before .before .before .before .before .before .before .before .decode-table .result) (c .before .before .before .before .before .before .before .before .before .drain .result .refusal) (c .before .before .before .before .before .before .before .before .before .drain .result .table) _ (c .before .before .before .before .before .before .before .before .before .before .before .before .before .if1 .left) (c .before .before .before .before .before .before .before .before .before .before .before .decode-table .ensures) (c .before .before .before .before .before .before .before .before .before .drain .ensures .0) (c .before .before .before .before .before .before .before .before .before .drain .result .count) _ _ (drained-count (now (c .before .before .before .before .before .before .before .before .before .before .before .before .before .before .before .before .before .args .table)) (now (c .before .before .before .before .before .before .before .before .before .before .before .before .before .before .before .before .before .args .memory)) (c .before .before .before .before .before .before .before .before .before .before .before .before .before .before .before .before .before .args .slot) (length (now (c .before .before .before .before .before .before .before .before .before .before .before .before .before .before .before .before .before .args .buffer))) (c .before .before .before .before .before .before .before .before .before .drain .result .count) (c .before .before .before .before .before .before .before .before .before .before .before .decode-table .result) (c .before .before .before .before .before .before .before .before .before .before .before .decode-table .ensures) (c .before .before .before .before .before .before .before .before .before .drain .ensures .1 .0)) (c .answer2 .ensures) (c .before .before .before .before .store .ensures),
   buffer-drained (now (c .before .before .before .before .before .before .before .before .before .before .before .before .before .before .before .before .before .args .table)) (now (c .before .before .before .before .before .before .before .before .before .before .before .before .before .before .before .before .before .args .memory)) (c .before .before .before .before .before .before .before .before .before .before .before .before .before .before .before .before .before .args .slot) (now (c .before .before .before .before .before .before .before .before .before .before .before .before .before .before .before .before .before .args .buffer)) _ (c .before .before .before .before .before .before .before .before .before .before .before .decode-table .result) (c .before .before .before .before .before .before .before .before .before .before .before .before .before .if1 .left) (c .before .before .before .before .before .before .before .before .before .before .before .decode-table .ensures) (c .before .before .before .before .before .before .before .before .before .drain .ensures .1 .1),
 )
 

@@ -1,8 +1,8 @@
 use denote.Ref.{now}
-use mathlib.Core.Path.{refl}
-use Rattle.supervisor.specs.Events.{load}
-use Rattle.host.specs.Calls.{countOf}
-use Rattle.host.proofs.Settling.{other-length, settled}
+use mathlib.Core.Path.{refl, _∙_}
+use Rattle.supervisor.specs.Calls.{change, load}
+use Rattle.host.proofs.Settling.{other-length, settled, place-same}
+use Rattle.supervisor.specs.Operations.{system}
 use borrow.Author.Needs.{needs}
 use Rattle.host.proofs.calls.pf_load.Statement.{statement}
 use Rattle.host.proofs.calls.pf_load.Tie as tie
@@ -11,10 +11,13 @@ answer-requires : tie.Need-answer-requires
 answer-requires c κs = search needs
 
 returns : tie.Need-returns
-returns c = other-length (load (c .before .before .before .before .before .args .slot) (c .before .before .before .before .before .args .location) (now (c .before .before .before .before .before .args .file))) (now (c .before .before .before .before .before .args .table)) (now (c .before .before .before .before .before .args .memory)) _ (c .before .if1 .taken) (c .answer .ensures)
+returns c = other-length 0 (change (c .before .before .before .before .before .args .slot) (load (record { 0 = c .before .before .before .before .before .args .location }) (now (c .before .before .before .before .before .args .file)))) (now (c .before .before .before .before .before .args .table)) (now (c .before .before .before .before .before .args .memory)) _ (c .before .if1 .taken) (c .answer .ensures)
 
 decode-table-requires : tie.Need-decode-table-requires
 decode-table-requires c κs = search needs
+
+place-requires : tie.Need-place-requires
+place-requires c κs = search needs
 
 load-requires : tie.Need-load-requires
 load-requires c κs = search needs
@@ -32,8 +35,7 @@ same-length-2 : tie.Need-same-length-2
 same-length-2 c = search needs
 
 returns-2 : tie.Need-returns-2
-unfolding countOf
-returns-2 c = settled (load (c .before .before .before .before .before .before .before .before .before .before .before .before .before .before .before .before .args .slot) (c .before .before .before .before .before .before .before .before .before .before .before .before .before .before .before .before .args .location) (now (c .before .before .before .before .before .before .before .before .before .before .before .before .before .before .before .before .args .file))) (now (c .before .before .before .before .before .before .before .before .before .before .before .before .before .before .before .before .args .table)) (now (c .before .before .before .before .before .before .before .before .before .before .before .before .before .before .before .before .args .memory)) (c .before .before .before .before .before .before .before .before .before .before .decode-table .result) (c .before .before .before .before .before .before .before .before .load .result .refusal) (c .before .before .before .before .before .before .before .before .load .result .table) _ (c .before .before .before .before .before .before .before .before .before .before .before .before .if1 .left) (c .before .before .before .before .before .before .before .before .before .before .decode-table .ensures) (c .before .before .before .before .before .before .before .before .load .ensures) 0 _ _ refl (c .answer2 .ensures) (c .before .before .before .store .ensures)
+returns-2 c = settled (change (c .before .before .before .before .before .before .before .before .before .before .before .before .before .before .before .before .before .args .slot) (load (record { 0 = c .before .before .before .before .before .before .before .before .before .before .before .before .before .before .before .before .before .args .location }) (now (c .before .before .before .before .before .before .before .before .before .before .before .before .before .before .before .before .before .args .file)))) (now (c .before .before .before .before .before .before .before .before .before .before .before .before .before .before .before .before .before .args .table)) (now (c .before .before .before .before .before .before .before .before .before .before .before .before .before .before .before .before .before .args .memory)) (c .before .before .before .before .before .before .before .before .before .before .before .decode-table .result) (c .before .before .before .before .before .before .before .before .load .result .refusal) (c .before .before .before .before .before .before .before .before .load .result .table) _ (c .before .before .before .before .before .before .before .before .before .before .before .before .before .if1 .left) (c .before .before .before .before .before .before .before .before .before .before .before .decode-table .ensures) (c .before .before .before .before .before .before .before .before .load .ensures ∙ place-same (system (c .before .before .before .before .before .before .before .before .before .before .before .decode-table .result) (now (c .before .before .before .before .before .before .before .before .before .before .before .before .before .before .before .before .before .args .memory))) (c .before .before .before .before .before .before .before .before .before .before .before .before .before .before .before .before .before .args .slot) (c .before .before .before .before .before .before .before .before .before .before .before .before .before .before .before .before .before .args .location) (c .before .before .before .before .before .before .before .before .before .place .result) (now (c .before .before .before .before .before .before .before .before .before .before .before .before .before .before .before .before .before .args .file)) (c .before .before .before .before .before .before .before .before .before .place .ensures)) 0 _ _ refl (c .answer2 .ensures) (c .before .before .before .store .ensures)
 
 pub pf-load-spec : {M : Type 1} → statement M
 pf-load-spec =
@@ -42,6 +44,7 @@ pf-load-spec =
     answer-requires
     returns
     decode-table-requires
+    place-requires
     load-requires
     store-requires
     answer-requires-2

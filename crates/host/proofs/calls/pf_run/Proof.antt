@@ -1,7 +1,6 @@
 use denote.Ref.{now}
 use mathlib.Core.Path.{refl}
-use Rattle.supervisor.specs.Events.{run}
-use Rattle.host.specs.Calls.{countOf}
+use Rattle.supervisor.specs.Calls.{run}
 use Rattle.host.proofs.Settling.{other-length, settled}
 use borrow.Author.Needs.{needs}
 use Rattle.host.proofs.calls.pf_run.Statement.{statement}
@@ -11,7 +10,7 @@ answer-requires : tie.Need-answer-requires
 answer-requires c κs = search needs
 
 returns : tie.Need-returns
-returns c = other-length (run (c .before .before .before .before .args .rounds)) (now (c .before .before .before .before .args .table)) (now (c .before .before .before .before .args .memory)) _ (c .before .if1 .taken) (c .answer .ensures)
+returns c = other-length 0 (run (c .before .before .before .before .args .rounds)) (now (c .before .before .before .before .args .table)) (now (c .before .before .before .before .args .memory)) _ (c .before .if1 .taken) (c .answer .ensures)
 
 decode-table-requires : tie.Need-decode-table-requires
 decode-table-requires c κs = search needs
@@ -32,7 +31,6 @@ same-length-2 : tie.Need-same-length-2
 same-length-2 c = search needs
 
 returns-2 : tie.Need-returns-2
-unfolding countOf
 returns-2 c = settled (run (c .before .before .before .before .before .before .before .before .before .before .before .before .before .before .before .args .rounds)) (now (c .before .before .before .before .before .before .before .before .before .before .before .before .before .before .before .args .table)) (now (c .before .before .before .before .before .before .before .before .before .before .before .before .before .before .before .args .memory)) (c .before .before .before .before .before .before .before .before .before .before .decode-table .result) (c .before .before .before .before .before .before .before .before .run .result .refusal) (c .before .before .before .before .before .before .before .before .run .result .table) _ (c .before .before .before .before .before .before .before .before .before .before .before .before .if1 .left) (c .before .before .before .before .before .before .before .before .before .before .decode-table .ensures) (c .before .before .before .before .before .before .before .before .run .ensures) 0 _ _ refl (c .answer2 .ensures) (c .before .before .before .store .ensures)
 
 pub pf-run-spec : {M : Type 1} → statement M

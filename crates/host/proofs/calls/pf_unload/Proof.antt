@@ -1,7 +1,6 @@
 use denote.Ref.{now}
 use mathlib.Core.Path.{refl}
-use Rattle.supervisor.specs.Events.{unload}
-use Rattle.host.specs.Calls.{countOf}
+use Rattle.supervisor.specs.Calls.{change, unload}
 use Rattle.host.proofs.Settling.{other-length, settled}
 use borrow.Author.Needs.{needs}
 use Rattle.host.proofs.calls.pf_unload.Statement.{statement}
@@ -11,7 +10,7 @@ answer-requires : tie.Need-answer-requires
 answer-requires c κs = search needs
 
 returns : tie.Need-returns
-returns c = other-length (unload (c .before .before .before .before .args .slot)) (now (c .before .before .before .before .args .table)) (now (c .before .before .before .before .args .memory)) _ (c .before .if1 .taken) (c .answer .ensures)
+returns c = other-length 0 (change (c .before .before .before .before .args .slot) unload) (now (c .before .before .before .before .args .table)) (now (c .before .before .before .before .args .memory)) _ (c .before .if1 .taken) (c .answer .ensures)
 
 decode-table-requires : tie.Need-decode-table-requires
 decode-table-requires c κs = search needs
@@ -32,8 +31,7 @@ same-length-2 : tie.Need-same-length-2
 same-length-2 c = search needs
 
 returns-2 : tie.Need-returns-2
-unfolding countOf
-returns-2 c = settled (unload (c .before .before .before .before .before .before .before .before .before .before .before .before .before .before .before .args .slot)) (now (c .before .before .before .before .before .before .before .before .before .before .before .before .before .before .before .args .table)) (now (c .before .before .before .before .before .before .before .before .before .before .before .before .before .before .before .args .memory)) (c .before .before .before .before .before .before .before .before .before .before .decode-table .result) (c .before .before .before .before .before .before .before .before .unload .result .refusal) (c .before .before .before .before .before .before .before .before .unload .result .table) _ (c .before .before .before .before .before .before .before .before .before .before .before .before .if1 .left) (c .before .before .before .before .before .before .before .before .before .before .decode-table .ensures) (c .before .before .before .before .before .before .before .before .unload .ensures) 0 _ _ refl (c .answer2 .ensures) (c .before .before .before .store .ensures)
+returns-2 c = settled (change (c .before .before .before .before .before .before .before .before .before .before .before .before .before .before .before .args .slot) unload) (now (c .before .before .before .before .before .before .before .before .before .before .before .before .before .before .before .args .table)) (now (c .before .before .before .before .before .before .before .before .before .before .before .before .before .before .before .args .memory)) (c .before .before .before .before .before .before .before .before .before .before .decode-table .result) (c .before .before .before .before .before .before .before .before .unload .result .refusal) (c .before .before .before .before .before .before .before .before .unload .result .table) _ (c .before .before .before .before .before .before .before .before .before .before .before .before .if1 .left) (c .before .before .before .before .before .before .before .before .before .before .decode-table .ensures) (c .before .before .before .before .before .before .before .before .unload .ensures) 0 _ _ refl (c .answer2 .ensures) (c .before .before .before .store .ensures)
 
 pub pf-unload-spec : {M : Type 1} → statement M
 pf-unload-spec =

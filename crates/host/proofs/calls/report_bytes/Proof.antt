@@ -1,10 +1,11 @@
 use Prim.Native.Nat.{ℕ}
 use lib.ListN.{length}
-use mathlib.Core.List.{List, [], _∷_, _++_}
+use mathlib.Core.List.{List, [], _∷_}
 use mathlib.Core.Path.{_≡_, sym, ap}
+use Rattle.slices.specs.Numbers.{pairOf}
+use Rattle.slices.specs.PieceLaws.{all-listed}
+use Rattle.slices.specs.Slices.{joined}
 use Rattle.host.specs.Calls.{reportBytes}
-use Rattle.encoding.specs.Encoding.{pairOf}
-use Rattle.encoding.specs.RoundTrip.{table-all}
 use borrow.Author.Needs.{needs}
 use Rattle.host.proofs.calls.report_bytes.Statement.{statement}
 use Rattle.host.proofs.calls.report_bytes.Tie as tie
@@ -37,10 +38,10 @@ array-read-t27 : tie.Need-array-read-t27
 array-read-t27 c = search needs
 
 returns : tie.Need-returns
-unfolding reportBytes pairOf
+unfolding reportBytes
 returns c = let l = c .before .before .before .args .r .registers in
     let h : length l ≡ 7 = search needs in
-    sym (ap (λ (x : List ℕ). c .before .before .before .args .r .status ∷ (pairOf (c .before .before .before .args .r .counter) ++ (x ++ (c .before .before .before .args .r .psu ∷ c .before .before .before .args .r .psl ∷ [])))) (table-all 7 l h))
+    sym (ap (λ (x : List ℕ). joined ((c .before .before .before .args .r .status ∷ []) ∷ pairOf (c .before .before .before .args .r .counter) ∷ x ∷ (c .before .before .before .args .r .psu ∷ c .before .before .before .args .r .psl ∷ []) ∷ [])) (all-listed 7 l h))
 
 pub report-bytes-spec : {M : Type 1} → statement M
 report-bytes-spec =

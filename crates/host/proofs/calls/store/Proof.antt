@@ -1,6 +1,6 @@
 use borrow.Author.Tests.{eq-eqb, ne-eqb}
 use mathlib.Core.Path.{refl}
-use Rattle.cpu.specs.Choice.{if_then_else_}
+use Rattle.common.specs.Choice.{if_then_else_}
 use Rattle.host.specs.Calls.{bytesAfter}
 use borrow.Author.Needs.{needs}
 use Rattle.host.proofs.calls.store.Statement.{statement}

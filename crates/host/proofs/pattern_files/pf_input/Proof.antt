@@ -1,11 +1,10 @@
-use Prim.Native.Nat.{ℕ, _+_}
+-- `host::pattern_files::pf_input`: the body's place and length, if the file is accepted.
 use denote.Ref.{now}
 use lib.ListN.{length}
-use mathlib.Core.List.{List}
 use mathlib.Core.Path.{sym, ap, _∙_}
 use native.Mathlib.Omega.{arith}
-use Rattle.host.specs.PatternFiles.{stretchOf, inputPlace}
-use Rattle.host.specs.PatternFileLaws.{code-few, input-accepted, input-few, input-refused}
+use Rattle.host.specs.PatternFiles.{stretchOf}
+use Rattle.host.specs.PatternFileLaws.{input-accepted, input-few, input-place-few, input-refused}
 use borrow.Author.Needs.{needs}
 use Rattle.host.proofs.pattern_files.pf_input.Statement.{statement}
 use Rattle.host.proofs.pattern_files.pf_input.Tie as tie
@@ -22,29 +21,25 @@ enum-told-2 c = search needs
 returns : tie.Need-returns
 returns c = sym (input-refused (now (c .before .before .before .before .args .file)) _ (sym (c .before .before .read .ensures) ∙ c .enum-told2 .given .1))
 
-code-body-requires : tie.Need-code-body-requires
-code-body-requires c κs = search needs
-
 input-body-requires : tie.Need-input-body-requires
 input-body-requires c κs = search needs
 
+input-place-requires : tie.Need-input-place-requires
+input-place-requires c κs = search needs
+
 cast-stretch : tie.Need-cast-stretch
-cast-stretch c = omega (arith, ap length (c .before .code-body .ensures), code-few (now (c .before .before .before .before .before .before .args .file)) _ (sym (c .before .before .before .before .read .ensures) ∙ c .before .before .enum-told .given .1))
-
-add-stretch : tie.Need-add-stretch
-add-stretch c = omega (arith, ap length (c .before .code-body .ensures), code-few (now (c .before .before .before .before .before .before .args .file)) _ (sym (c .before .before .before .before .read .ensures) ∙ c .before .before .enum-told .given .1))
-
-add-stretch-2 : tie.Need-add-stretch-2
-add-stretch-2 c = omega (arith, ap length (c .before .code-body .ensures), code-few (now (c .before .before .before .before .before .before .args .file)) _ (sym (c .before .before .before .before .read .ensures) ∙ c .before .before .enum-told .given .1))
+cast-stretch c = omega (arith, c .input-place .ensures, input-place-few (now (c .before .before .before .before .before .before .args .file)) _ (sym (c .before .before .before .before .read .ensures) ∙ c .before .before .enum-told .given .1))
 
 cast-stretch-2 : tie.Need-cast-stretch-2
-cast-stretch-2 c = omega (arith, ap length (c .input-body .ensures), input-few (now (c .before .before .before .before .before .before .args .file)) _ (sym (c .before .before .before .before .read .ensures) ∙ c .before .before .enum-told .given .1))
+cast-stretch-2 c = omega (arith, ap length (c .before .input-body .ensures), input-few (now (c .before .before .before .before .before .before .args .file)) _ (sym (c .before .before .before .before .read .ensures) ∙ c .before .before .enum-told .given .1))
 
 stretch-requires : tie.Need-stretch-requires
 stretch-requires c κs = search needs
 
 returns-2 : tie.Need-returns-2
-returns-2 c = c .stretch .ensures ∙ ap (λ (l : List ℕ). stretchOf (23 + length l + 4) (length (now (c .before .input-body .result)))) (c .before .before .code-body .ensures) ∙ ap (λ (l : List ℕ). stretchOf (inputPlace (now (c .before .before .before .before .before .before .before .args .file))) (length l)) (c .before .input-body .ensures) ∙ sym (input-accepted (now (c .before .before .before .before .before .before .before .args .file)) _ (sym (c .before .before .before .before .before .read .ensures) ∙ c .before .before .before .enum-told .given .1))
+returns-2 c = c .stretch .ensures
+    ∙ (λ j. stretchOf (c .before .input-place .ensures j) (length (c .before .before .input-body .ensures j)))
+    ∙ sym (input-accepted (now (c .before .before .before .before .before .before .before .args .file)) _ (sym (c .before .before .before .before .before .read .ensures) ∙ c .before .before .before .enum-told .given .1))
 
 pub pf-input-spec : {M : Type 1} → statement M
 pf-input-spec =
@@ -54,11 +49,9 @@ pf-input-spec =
     enum-told
     enum-told-2
     returns
-    code-body-requires
     input-body-requires
+    input-place-requires
     cast-stretch
-    add-stretch
-    add-stretch-2
     cast-stretch-2
     stretch-requires
     returns-2)

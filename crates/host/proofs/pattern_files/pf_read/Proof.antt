@@ -1,3 +1,4 @@
+-- `host::pattern_files::pf_read`: by the reader's answer (PatternFiling.antt).
 use Prim.Native.Nat.{ℕ}
 use denote.Ref.{now}
 use mathlib.Core.Path.{ap, _∙_}

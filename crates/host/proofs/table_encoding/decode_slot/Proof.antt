@@ -1,3 +1,4 @@
+-- `host::table_encoding::decode_slot`: a partition, and the state behind it.
 use Rattle.host.specs.TableEncoding.{slotFrom}
 use borrow.Author.Needs.{needs}
 use Rattle.host.proofs.table_encoding.decode_slot.Statement.{statement}
@@ -17,13 +18,7 @@ decode-requires c κs = search needs
 
 returns : tie.Need-returns
 unfolding slotFrom
-returns c =
-    rw (
-      ← c .before .before .before .part .ensures,
-      ← c .before .before .decode-partition .ensures,
-      ← c .before .rest .ensures,
-      ← c .decode .ensures,
-    )
+returns c = rw (← c .before .before .before .part .ensures, ← c .before .before .decode-partition .ensures, ← c .before .rest .ensures, ← c .decode .ensures)
 
 pub decode-slot-spec : {M : Type 1} → statement M
 decode-slot-spec = tie.close (tie.spec part-requires decode-partition-requires rest-requires decode-requires returns)

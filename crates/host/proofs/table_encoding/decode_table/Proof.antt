@@ -1,61 +1,71 @@
-use Rattle.host.specs.TableEncoding.{slotsFrom, tableAt}
+-- `host::table_encoding::decode_table`: each turn reads one slot.
+use Prim.Native.Nat.{_+_, _*_, _-_}
+use lib.ListN.{length-replicate}
+use Rattle.slices.specs.PieceLaws.{ListedTo, listed-none, listed-next, listed-all}
+use Rattle.slices.specs.Slices.{partOf}
+use Rattle.host.specs.TableEncoding.{slotLength, slotsPlace, slotFrom, tableAt}
 use borrow.Author.Needs.{needs}
 use Rattle.host.proofs.table_encoding.decode_table.Statement.{statement}
 use Rattle.host.proofs.table_encoding.decode_table.Tie as tie
 
-four-requires : tie.Need-four-requires
-four-requires c κs = search needs
+abbrev Inv-loop : tie.InvT-loop
+Inv-loop bytes size slots₀ k₀ slots k = ListedTo 8 (λ i. slotFrom (partOf bytes (slotsPlace + slotLength * i) slotLength)) k slots
 
-decode-slot-requires : tie.Need-decode-slot-requires
+abbrev μ-loop : tie.MeasureT-loop
+μ-loop bytes size slots₀ k₀ slots k = 8 - k
+
+quad-requires : tie.Need-quad-requires Inv-loop μ-loop
+quad-requires c κs = search needs
+
+decode-slot-requires : tie.Need-decode-slot-requires Inv-loop μ-loop
 decode-slot-requires c κs = search needs
 
-decode-slot-requires-2 : tie.Need-decode-slot-requires-2
+loop-holds : tie.Need-loop-holds Inv-loop μ-loop
+loop-holds c = listed-none _ _ _ (length-replicate 8 (c .decode-slot .result))
+
+mul-decode-slot : tie.Need-mul-decode-slot Inv-loop μ-loop
+mul-decode-slot c = search needs
+
+add-decode-slot : tie.Need-add-decode-slot Inv-loop μ-loop
+add-decode-slot c = search needs
+
+decode-slot-requires-2 : tie.Need-decode-slot-requires-2 Inv-loop μ-loop
 decode-slot-requires-2 c κs = search needs
 
-decode-slot-requires-3 : tie.Need-decode-slot-requires-3
-decode-slot-requires-3 c κs = search needs
+mul-slots : tie.Need-mul-slots Inv-loop μ-loop
+mul-slots c = search needs
 
-decode-slot-requires-4 : tie.Need-decode-slot-requires-4
-decode-slot-requires-4 c κs = search needs
+array-set-from-slots : tie.Need-array-set-from-slots Inv-loop μ-loop
+array-set-from-slots c = search needs
 
-decode-slot-requires-5 : tie.Need-decode-slot-requires-5
-decode-slot-requires-5 c κs = search needs
+add-k : tie.Need-add-k Inv-loop μ-loop
+add-k c = search needs
 
-decode-slot-requires-6 : tie.Need-decode-slot-requires-6
-decode-slot-requires-6 c κs = search needs
+loop-less : tie.Need-loop-less Inv-loop μ-loop
+loop-less c = search needs
 
-decode-slot-requires-7 : tie.Need-decode-slot-requires-7
-decode-slot-requires-7 c κs = search needs
+loop-again : tie.Need-loop-again Inv-loop μ-loop
+loop-again c = listed-next _ _ (c .before .before .loop .k) _ (c .before .before .loop .inv) _ (c .before .loop-test .taken) (c .decode-slot2 .ensures)
 
-decode-slot-requires-8 : tie.Need-decode-slot-requires-8
-decode-slot-requires-8 c κs = search needs
-
-returns : tie.Need-returns
-unfolding tableAt slotsFrom
-returns c =
-    rw (
-      ← c .before .before .before .before .before .before .before .before .four .ensures,
-      ← c .before .before .before .before .before .before .before .decode-slot .ensures,
-      ← c .before .before .before .before .before .before .decode-slot2 .ensures,
-      ← c .before .before .before .before .before .decode-slot3 .ensures,
-      ← c .before .before .before .before .decode-slot4 .ensures,
-      ← c .before .before .before .decode-slot5 .ensures,
-      ← c .before .before .decode-slot6 .ensures,
-      ← c .before .decode-slot7 .ensures,
-      ← c .decode-slot8 .ensures,
-    )
+returns : tie.Need-returns Inv-loop μ-loop
+unfolding tableAt
+returns c = rw (c .before .before .before .quad .ensures, listed-all _ _ (c .before .loop .k) _ (c .before .loop .inv) (c .loop-test .left))
 
 pub decode-table-spec : {M : Type 1} → statement M
 decode-table-spec =
     tie.close
     (tie.spec
-    four-requires
+    Inv-loop
+    μ-loop
+    quad-requires
     decode-slot-requires
+    loop-holds
+    mul-decode-slot
+    add-decode-slot
     decode-slot-requires-2
-    decode-slot-requires-3
-    decode-slot-requires-4
-    decode-slot-requires-5
-    decode-slot-requires-6
-    decode-slot-requires-7
-    decode-slot-requires-8
+    mul-slots
+    array-set-from-slots
+    add-k
+    loop-less
+    loop-again
     returns)

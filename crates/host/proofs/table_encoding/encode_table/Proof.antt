@@ -1,35 +1,31 @@
-use mathlib.Core.Path.{_≡_, refl, sym, ap, _∙_}
-use Rattle.host.proofs.Tables.{soFar, none-yet, no-bytes, one-more, size-more, all-done}
-use Prim.Native.Nat.{ℕ, _*_, _-_, _≤_}
+-- `host::table_encoding::encode_table`: the memory's length, and then each turn puts one slot behind the last.
+use Prim.Native.Nat.{_*_, _-_, _≤_}
 use denote.Ref.{now}
 use lib.ListN.{length, length-map}
-use mathlib.Core.Path.{_≡_, sym, ap, _∙_}
+use mathlib.Core.List.{map}
+use mathlib.Core.Path.{_≡_, refl, sym, _∙_}
 use native.Mathlib.Omega.{arith}
-use Rattle.slices.specs.Slices.{copied}
-use Rattle.host.proofs.Tables.{soFar, none-yet, one-more, size-more, all-done}
+use Rattle.slices.specs.Laws.{copied-next, copied-all}
+use Rattle.slices.specs.Numbers.{quadOf}
+use Rattle.slices.specs.PieceLaws.{PutTo, put-none, put-more, put-all, put-size}
+use Rattle.slices.specs.Slices.{joined}
+use Rattle.supervisor.specs.Table.{noSlot}
+use Rattle.host.specs.TableEncoding.{slotLength, slotsPlace, tableLength, slotBytes, tableBytes}
 use borrow.Author.Needs.{needs}
 use Rattle.host.proofs.table_encoding.encode_table.Statement.{statement}
 use Rattle.host.proofs.table_encoding.encode_table.Tie as tie
 
 abbrev Inv-loop : tie.InvT-loop
-Inv-loop bytes₀ table k₀ bytes k =
-    (k ≤ 8) × (bytes ≡ copied bytes₀ 4 (soFar table k)) × (length (soFar table k) ≡ 45 * k) × (length bytes ≡ length bytes₀)
+Inv-loop bytes₀ table k₀ bytes k = PutTo slotBytes slotLength (table .slots) bytes₀ slotsPlace k bytes
 
 abbrev μ-loop : tie.MeasureT-loop
 μ-loop bytes₀ table k₀ bytes k = 8 - k
 
-four-bytes-requires : tie.Need-four-bytes-requires Inv-loop μ-loop
-four-bytes-requires c κs = search needs
-
-slice-aggregate-copy : tie.Need-slice-aggregate-copy Inv-loop μ-loop
-slice-aggregate-copy c = search needs
-
-copy-requires : tie.Need-copy-requires Inv-loop μ-loop
-copy-requires c κs = search needs
+put-quad-requires : tie.Need-put-quad-requires Inv-loop μ-loop
+put-quad-requires c κs = search needs
 
 loop-holds : tie.Need-loop-holds Inv-loop μ-loop
-loop-holds c = let whole : length (now (c .before .before .before .before .before .before .before .args .bytes)) ≡ 364 = c .before .before .before .before .before .before .before .pre in
-    (omega arith, none-yet (c .before .before .before .before .before .before .before .args .t2) (c .before .before .copy .last .0) (omega (arith, c .before .before .copy .kept .0)), no-bytes (c .before .before .before .before .before .before .before .args .t2), refl)
+loop-holds c = put-none _ _ _ _ _
 
 mul-s : tie.Need-mul-s Inv-loop μ-loop
 mul-s c = search needs
@@ -38,40 +34,40 @@ element-copy-out-s : tie.Need-element-copy-out-s Inv-loop μ-loop
 element-copy-out-s c = search needs
 
 mul-put-slot : tie.Need-mul-put-slot Inv-loop μ-loop
-mul-put-slot c = omega arith
+mul-put-slot c = search needs
 
 add-put-slot : tie.Need-add-put-slot Inv-loop μ-loop
-add-put-slot c = omega arith
+add-put-slot c = search needs
 
 put-slot-requires : tie.Need-put-slot-requires Inv-loop μ-loop
-put-slot-requires c κs = omega arith
+put-slot-requires c κs = search needs
 
 add-k : tie.Need-add-k Inv-loop μ-loop
-add-k c = omega arith
+add-k c = search needs
 
 loop-less : tie.Need-loop-less Inv-loop μ-loop
-loop-less c = omega arith
+loop-less c = search needs
 
 loop-again : tie.Need-loop-again Inv-loop μ-loop
-loop-again c = let a = c .before .before .before .before .before .before .before .before .before .before .before .before .before .before .args in
-    let e : length (a .t2 .slots) ≡ 8 = sym (length-map (a .t2 .slots) _) ∙ c .before .before .before .before .before .before .before .before .before .before .before .before .before .before .good .1 .0 .1 .1 .1 .0 .1 .0 .1 in
-    let whole : length (c .before .before .before .before .before .before .before .before .before .copy .last .0) ≡ 364 = c .before .before .before .before .before .before .before .before .before .copy .kept .0 ∙ c .before .before .before .before .before .before .before .before .before .before .before .before .before .before .pre in
-    let k : ℕ = c .before .before .before .before .before .before .loop .k in (
-      omega arith,
-      one-more (a .t2) k e (c .before .before .before .before .before .loop-test .taken) (c .before .before .before .before .before .before .loop .inv .2) (c .before .before .put-slot .ensures .1) (c .before .before .before .before .before .before .before .before .before .copy .last .0) (c .before .before .before .before .before .before .loop .bytes) _ whole (c .before .before .before .before .before .before .loop .inv .1) (c .before .before .put-slot .ensures .0),
-      size-more (a .t2) k e (c .before .before .before .before .before .loop-test .taken) (c .before .before .before .before .before .before .loop .inv .2) (c .before .before .put-slot .ensures .1),
-      c .before .before .put-slot .kept .0 ∙ c .before .before .before .before .before .before .loop .inv .3,
-    )
+loop-again c = let t = c .before .before .before .before .before .before .before .before .before .before .before .before .args .t2 in
+    let eight : length (t .slots) ≡ 8 = sym (length-map (t .slots) _) ∙ c .before .before .before .before .before .before .before .before .before .before .before .before .good .1 .0 .1 .1 .1 .0 .1 .0 .1 in
+    let whole : length (c .before .before .before .before .before .before .before .before .before .put-quad .last .0) ≡ tableLength = c .before .before .before .before .before .before .before .before .before .put-quad .kept .0 ∙ c .before .before .before .before .before .before .before .before .before .before .before .before .pre in
+    put-more slotBytes slotLength (t .slots) (c .before .before .before .before .before .before .before .before .before .put-quad .last .0) slotsPlace (c .before .before .before .before .before .before .loop .k) (c .before .before .before .before .before .before .loop .bytes) (c .before .before .before .before .before .before .loop .inv) noSlot _ (omega arith) (c .before .before .put-slot .ensures .1) (omega arith) (c .before .before .put-slot .ensures .0)
 
 same-length : tie.Need-same-length Inv-loop μ-loop
-same-length c = c .before .loop .inv .3 ∙ c .before .before .before .before .copy .kept .0
+same-length c = c .before .loop .inv .kept ∙ c .before .before .before .before .put-quad .kept .0
 
 returns : tie.Need-returns Inv-loop μ-loop
-returns c = let a = c .before .before .before .before .before .before .before .before .before .args in
-    let e : length (a .t2 .slots) ≡ 8 = sym (length-map (a .t2 .slots) _) ∙ c .before .before .before .before .before .before .before .before .before .good .1 .0 .1 .1 .1 .0 .1 .0 .1 in
-    let l = c .before .loop .inv .0 in
-    let r = c .loop-test .left in
-    all-done (a .t2) (now (a .bytes)) (c .before .before .before .before .copy .last .0) (c .before .loop .bytes) (c .before .loop .k) e (omega arith) (c .before .before .before .before .before .before .before .before .before .pre) (c .before .before .before .before .copy .ensures ∙ ap (copied (now (a .bytes)) 0) (c .before .before .before .before .before .before .before .four-bytes .ensures)) (c .before .loop .inv .1) (c .before .loop .inv .2)
+unfolding tableBytes
+returns c = let t = c .before .before .before .before .before .before .before .args .t2 in
+    let l = now (c .before .before .before .before .before .before .before .args .bytes) in
+    let eight : length (t .slots) ≡ 8 = sym (length-map (t .slots) _) ∙ c .before .before .before .before .before .before .before .good .1 .0 .1 .1 .1 .0 .1 .0 .1 in
+    let whole : length l ≡ tableLength = c .before .before .before .before .before .before .before .pre in
+    let past : length (t .slots) ≤ c .before .loop .k = omega arith in
+    let size : length (joined (map slotBytes (t .slots))) ≡ slotLength * length (t .slots) = put-size slotBytes slotLength (t .slots) (c .before .before .before .before .put-quad .last .0) slotsPlace (c .before .loop .k) (c .before .loop .bytes) (c .before .loop .inv) past in
+    copied-next l (c .before .before .before .before .put-quad .last .0) (c .before .loop .bytes) 0 slotsPlace (quadOf (t .size)) (joined (map slotBytes (t .slots))) (c .before .before .before .before .put-quad .ensures)
+    (put-all slotBytes slotLength (t .slots) (c .before .before .before .before .put-quad .last .0) slotsPlace (c .before .loop .k) (c .before .loop .bytes) (c .before .loop .inv) past) refl (omega arith)
+    ∙ copied-all l (tableBytes t) (omega arith)
 
 pub encode-table-spec : {M : Type 1} → statement M
 encode-table-spec =
@@ -79,9 +75,7 @@ encode-table-spec =
     (tie.spec
     Inv-loop
     μ-loop
-    four-bytes-requires
-    slice-aggregate-copy
-    copy-requires
+    put-quad-requires
     loop-holds
     mul-s
     element-copy-out-s

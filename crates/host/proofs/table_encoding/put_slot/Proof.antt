@@ -1,25 +1,20 @@
+-- `host::table_encoding::put_slot`: the state stands where the partition ends.
 use denote.Ref.{now}
 use mathlib.Core.Path.{_≡_, ap, sym, _∙_}
 use Prim.Native.Nat.{ℕ, _+_, _≤_}
 use native.Mathlib.Omega.{arith}
 use lib.ListN.{length, length-append}
-use Rattle.encoding.specs.Encoding.{bytesOf}
+use Rattle.encoding.specs.Encoding.{stateLength, stateBytes}
 use Rattle.slices.specs.Slices.{copied}
 use Rattle.slices.specs.Laws.{copied-next}
-use Rattle.host.specs.TableEncoding.{partitionBytes, slotBytes}
+use Rattle.host.specs.TableEncoding.{partitionLength, slotLength, partitionBytes, slotBytes}
 use Rattle.host.specs.TableRoundTrip.{partition-length}
 use borrow.Author.Needs.{needs}
 use Rattle.host.proofs.table_encoding.put_slot.Statement.{statement}
 use Rattle.host.proofs.table_encoding.put_slot.Tie as tie
 
-partition-bytes-requires : tie.Need-partition-bytes-requires
-partition-bytes-requires c κs = search needs
-
-slice-aggregate-copy : tie.Need-slice-aggregate-copy
-slice-aggregate-copy c = search needs
-
-copy-requires : tie.Need-copy-requires
-copy-requires c κs = search needs
+put-partition-requires : tie.Need-put-partition-requires
+put-partition-requires c κs = search needs
 
 encode-requires : tie.Need-encode-requires
 encode-requires c κs = search needs
@@ -27,29 +22,37 @@ encode-requires c κs = search needs
 add-copy : tie.Need-add-copy
 add-copy c = search needs
 
-slice-aggregate-copy-2 : tie.Need-slice-aggregate-copy-2
-slice-aggregate-copy-2 c = search needs
+slice-aggregate-copy : tie.Need-slice-aggregate-copy
+slice-aggregate-copy c = search needs
 
-copy-requires-2 : tie.Need-copy-requires-2
-copy-requires-2 c κs = search needs
+copy-requires : tie.Need-copy-requires
+copy-requires c κs = search needs
 
 same-length : tie.Need-same-length
 same-length c = search needs
 
 returns : tie.Need-returns
 unfolding slotBytes
-returns c = let a = c .before .before .before .before .before .before .before .before .before .before .before .before .before .before .before .args in let s = a .slot in let room : a .at + 45 ≤ length (now (a .bytes)) = c .before .before .before .before .before .before .before .before .before .before .before .before .before .before .before .pre in let own : length (c .before .before .before .before .before .encode .result) ≡ 34 = search needs in let n : length (bytesOf (s .state)) ≡ 34 = sym (ap length (c .before .before .before .before .before .encode .ensures .0)) ∙ own in (copied-next (now (a .bytes)) _ _ (a .at) (a .at + 11) (partitionBytes (s .partition)) (bytesOf (s .state)) (c .before .before .before .before .before .before .before .before .copy .ensures ∙ ap (copied (now (a .bytes)) (a .at)) (c .before .before .before .before .before .before .before .before .before .before .before .partition-bytes .ensures)) (c .before .before .copy2 .ensures ∙ ap (copied (c .before .before .before .before .before .before .before .before .copy .last .0) (a .at + 11)) (c .before .before .before .before .before .encode .ensures .0)) (ap (λ (i : ℕ). a .at + i) (sym (partition-length (s .partition)))) (omega (arith, n, partition-length (s .partition), room)), length-append (partitionBytes (s .partition)) (bytesOf (s .state)) ∙ (omega (arith, n, partition-length (s .partition))))
+returns c = let a = c .before .before .before .before .before .before .before .before .before .before .before .before .before .args in
+    let s = a .slot in
+    let room : a .at + slotLength ≤ length (now (a .bytes)) = c .before .before .before .before .before .before .before .before .before .before .before .before .before .pre in
+    let own : length (c .before .before .before .before .before .encode .result) ≡ stateLength = search needs in
+    let n : length (stateBytes (s .state)) ≡ stateLength = sym (ap length (c .before .before .before .before .before .encode .ensures .0)) ∙ own in (
+      copied-next (now (a .bytes)) _ _ (a .at) (a .at + partitionLength) (partitionBytes (s .partition)) (stateBytes (s .state)) (c .before .before .before .before .before .before .before .before .put-partition .ensures)
+          (c .before .before .copy .ensures ∙ ap (copied (c .before .before .before .before .before .before .before .before .put-partition .last .0) (a .at + partitionLength)) (c .before .before .before .before .before .encode .ensures .0))
+          (ap (λ (i : ℕ). a .at + i) (sym (partition-length (s .partition))))
+          (omega (arith, n, partition-length (s .partition), room)),
+      length-append (partitionBytes (s .partition)) (stateBytes (s .state)) ∙ (omega (arith, n, partition-length (s .partition))),
+    )
 
 pub put-slot-spec : {M : Type 1} → statement M
 put-slot-spec =
     tie.close
     (tie.spec
-    partition-bytes-requires
-    slice-aggregate-copy
-    copy-requires
+    put-partition-requires
     encode-requires
     add-copy
-    slice-aggregate-copy-2
-    copy-requires-2
+    slice-aggregate-copy
+    copy-requires
     same-length
     returns)

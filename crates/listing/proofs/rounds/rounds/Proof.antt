@@ -2,7 +2,7 @@ use mathlib.Core.Path.{_≡_, refl, sym, ap, _∙_}
 use native.Mathlib.Omega.{arith}
 use lib.ListN.{length}
 use Rattle.supervisor.specs.Operations.{system}
-use Rattle.supervisor.specs.Events.{Outcome, outcomeOf}
+use Rattle.supervisor.specs.Calls.{Outcome, outcomeOf}
 use Rattle.listing.specs.Rounds.{untilStopped}
 use Rattle.listing.specs.RunLaws.{until-more, until-done, taken-more}
 use Rattle.listing.proofs.rounds.rounds.Statement.{statement}

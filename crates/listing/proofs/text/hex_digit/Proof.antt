@@ -1,3 +1,4 @@
+use Rattle.common.specs.Choice.{if_then_else_}
 use Rattle.listing.specs.Text.{hexDigit}
 use borrow.Author.Tests.{lt-ltb, le-ltb}
 use borrow.Author.Needs.{needs}
@@ -11,11 +12,11 @@ add-result-2 : tie.Need-add-result-2
 add-result-2 c = search needs
 
 returns : tie.Need-returns
-unfolding hexDigit
+unfolding hexDigit if_then_else_
 returns c = rw (lt-ltb _ _ (c .if1 .taken))
 
 returns-2 : tie.Need-returns-2
-unfolding hexDigit
+unfolding hexDigit if_then_else_
 returns-2 c = rw (le-ltb _ _ (c .if1 .left))
 
 pub hex-digit-spec : {M : Type 1} → statement M

@@ -1,19 +1,22 @@
+-- `machine::rounds::run`: each turn adds a quantum of steps.
 use mathlib.Core.Path.{_≡_, refl, sym, ap, _∙_}
 use Prim.Native.Nat.{ℕ, _+_, _*_, _≤_, _-_}
 use lib.ListN.{length}
 use native.Mathlib.Nat.{add-mul, zero-mul}
 use native.Mathlib.Omega.{arith}
-use Rattle.cpu.specs.Machine.{Machine, beyond, machineOf, machineStep, times}
-use Rattle.cpu.specs.Times.{times-zero, times-add, times-rests}
+use Rattle.cpu.specs.Machine.{Machine, beyond, machineOf, machineStep}
+use Rattle.common.specs.Repetition.{times}
+use Rattle.cpu.specs.Times.{times-rests}
+use Rattle.common.specs.RepetitionLaws.{times-zero, times-add}
 use borrow.Author.Needs.{needs}
 use Rattle.machine.proofs.rounds.run.Statement.{statement}
 use Rattle.machine.proofs.rounds.run.Tie as tie
 
 abbrev Inv-loop : tie.InvT-loop
-Inv-loop partition₀ sizes quantum rounds s₀ i₀ partition s i = (i ≤ rounds) × (length partition ≡ length partition₀) × (machineOf sizes s partition ≡ times (i * quantum) machineStep (machineOf sizes s₀ partition₀)) × (beyond sizes partition ≡ beyond sizes partition₀)
+Inv-loop partition₀ layout quantum rounds s₀ i₀ partition s i = (i ≤ rounds) × (length partition ≡ length partition₀) × (machineOf layout s partition ≡ times (i * quantum) machineStep (machineOf layout s₀ partition₀)) × (beyond layout partition ≡ beyond layout partition₀)
 
 abbrev μ-loop : tie.MeasureT-loop
-μ-loop partition₀ sizes quantum rounds s₀ i₀ partition s i = rounds - i
+μ-loop partition₀ layout quantum rounds s₀ i₀ partition s i = rounds - i
 
 loop-holds : tie.Need-loop-holds Inv-loop μ-loop
 loop-holds c = (omega arith, refl, rw (zero-mul) (sym (times-zero machineStep _)), refl)
@@ -32,7 +35,7 @@ loop-again c =
     let args = c .before .before .before .before .before .before .before .before .before .args in
     let here = c .before .before .before .before .before .before .before .loop in
     let called = c .before .before .run in
-    let before = machineOf (args .sizes) (args .state) (args .partition .now) in
+    let before = machineOf (args .layout) (args .state) (args .partition .now) in
     let more : args .quantum + here .i * args .quantum ≡ (here .i + 1) * args .quantum = omega (arith, add-mul (here .i) 1 (args .quantum)) in (
       omega arith,
       called .kept .1 .0 ∙ here .inv .1,
@@ -53,7 +56,7 @@ returns c =
     let most : here .i ≤ args .rounds = here .inv .0 in
     let least : args .rounds ≤ here .i = c .loop-test .left in
     let all : here .i ≡ args .rounds = omega arith in
-    (here .inv .2 ∙ ap (λ (n : ℕ). times (n * args .quantum) machineStep (machineOf (args .sizes) (args .state) (args .partition .now))) all, here .inv .3)
+    (here .inv .2 ∙ ap (λ (n : ℕ). times (n * args .quantum) machineStep (machineOf (args .layout) (args .state) (args .partition .now))) all, here .inv .3)
 
 same-length-2 : tie.Need-same-length-2 Inv-loop μ-loop
 same-length-2 c = c .before .before .before .loop .inv .1
@@ -63,12 +66,12 @@ returns-2 : tie.Need-returns-2 Inv-loop μ-loop
 returns-2 c =
     let args = c .before .before .before .before .before .args in
     let here = c .before .before .before .loop in
-    let before = machineOf (args .sizes) (args .state) (args .partition .now) in
+    let before = machineOf (args .layout) (args .state) (args .partition .now) in
     let most : here .i ≤ args .rounds = here .inv .0 in
     let left = args .rounds - here .i in
     let all : left + here .i ≡ args .rounds = omega arith in (
       here .inv .2
-          ∙ sym (times-rests (left * args .quantum) _ (λ e. c .if1 .taken (ap (λ (m : Machine). m .status) (here .inv .2) ∙ e)))
+          ∙ sym (times-rests (left * args .quantum) _ (λ e. c .if1 .taken (ap (λ (m : Machine). m .state .status) (here .inv .2) ∙ e)))
           ∙ sym (times-add machineStep (left * args .quantum) (here .i * args .quantum) before)
           ∙ ap (λ (n : ℕ). times n machineStep before) (sym (add-mul left (here .i) (args .quantum)) ∙ ap (λ (n : ℕ). n * args .quantum) all),
       here .inv .3,

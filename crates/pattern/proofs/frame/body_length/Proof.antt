@@ -4,12 +4,12 @@ use borrow.Author.Needs.{needs}
 use Rattle.pattern.proofs.frame.body_length.Statement.{statement}
 use Rattle.pattern.proofs.frame.body_length.Tie as tie
 
-word-requires : tie.Need-word-requires
-word-requires c κs = search needs
+pair-requires : tie.Need-pair-requires
+pair-requires c κs = search needs
 
 returns : tie.Need-returns
 unfolding bodyLength
-returns c = c .word .ensures
+returns c = c .pair .ensures
 
 pub body-length-spec : {M : Type 1} → statement M
-body-length-spec = tie.close (tie.spec word-requires returns)
+body-length-spec = tie.close (tie.spec pair-requires returns)

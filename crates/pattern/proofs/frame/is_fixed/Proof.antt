@@ -9,8 +9,11 @@ is-framed-requires c κs = search needs
 body-length-requires : tie.Need-body-length-requires
 body-length-requires c κs = search needs
 
+cast-result : tie.Need-cast-result
+cast-result c = search needs
+
 returns : tie.Need-returns
 returns c = rw (c .before .is-framed .ensures, c .body-length .ensures)
 
 pub is-fixed-spec : {M : Type 1} → statement M
-is-fixed-spec = tie.close (tie.spec is-framed-requires body-length-requires returns)
+is-fixed-spec = tie.close (tie.spec is-framed-requires body-length-requires cast-result returns)

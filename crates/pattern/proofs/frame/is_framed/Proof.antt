@@ -1,4 +1,5 @@
 -- `pattern::frame::is_framed`: each test is the one that the definition makes.
+use Rattle.common.specs.Tests.{allAfter}
 use Rattle.pattern.specs.Frame.{framed}
 use borrow.Author.Needs.{needs}
 use Rattle.pattern.proofs.frame.is_framed.Statement.{statement}
@@ -10,18 +11,12 @@ byte-requires c κs = search needs
 byte-requires-2 : tie.Need-byte-requires-2
 byte-requires-2 c κs = search needs
 
-body-length-requires : tie.Need-body-length-requires
-body-length-requires c κs = search needs
-
-cast-result : tie.Need-cast-result
-cast-result c = search needs
-
-add-result : tie.Need-add-result
-add-result c = search needs
+record-size-requires : tie.Need-record-size-requires
+record-size-requires c κs = search needs
 
 returns : tie.Need-returns
-unfolding framed
-returns c = rw (c .before .before .byte .ensures, c .before .byte2 .ensures, c .body-length .ensures)
+unfolding framed allAfter
+returns c = rw (c .before .before .byte .ensures, c .before .byte2 .ensures, c .record-size .ensures .0)
 
 pub is-framed-spec : {M : Type 1} → statement M
-is-framed-spec = tie.close (tie.spec byte-requires byte-requires-2 body-length-requires cast-result add-result returns)
+is-framed-spec = tie.close (tie.spec byte-requires byte-requires-2 record-size-requires returns)

@@ -1,26 +1,32 @@
--- `pattern::frame::put_record`: two copies in succession are one, of the whole record.
-use Prim.Native.Nat.{_+_, _≤_}
+-- `pattern::frame::put_record`: mark, length and body, each where the one before it ends.
+use Prim.Native.Nat.{ℕ, _+_, _≤_}
 use denote.Ref.{now}
-use lib.ListN.{length}
-use mathlib.Core.List.{[], _∷_}
-use mathlib.Core.Path.{refl}
-use Rattle.slices.specs.Laws.{copied-next}
-use Rattle.pattern.specs.Frame.{high, low, recordOf}
+use lib.ListN.{length, length-append}
+use mathlib.Core.List.{List, [], _∷_, _++_, append-nil}
+use mathlib.Core.Path.{refl, ap, _∙_}
+use native.Mathlib.Omega.{arith}
+use Rattle.slices.specs.Numbers.{pairOf}
+use Rattle.slices.specs.PieceLaws.{copied-each}
+use Rattle.slices.specs.Slices.{copied}
+use Rattle.pattern.specs.Frame.{frameSize, recordOf}
 use borrow.Author.Needs.{needs}
 use Rattle.pattern.proofs.frame.put_record.Statement.{statement}
 use Rattle.pattern.proofs.frame.put_record.Tie as tie
-
-cast-t9 : tie.Need-cast-t9
-cast-t9 c = search needs
-
-cast-t11 : tie.Need-cast-t11
-cast-t11 c = search needs
 
 slice-aggregate-copy : tie.Need-slice-aggregate-copy
 slice-aggregate-copy c = search needs
 
 copy-requires : tie.Need-copy-requires
 copy-requires c κs = search needs
+
+add-put-pair : tie.Need-add-put-pair
+add-put-pair c = search needs
+
+cast-put-pair : tie.Need-cast-put-pair
+cast-put-pair c = search needs
+
+put-pair-requires : tie.Need-put-pair-requires
+put-pair-requires c κs = search needs
 
 add-copy : tie.Need-add-copy
 add-copy c = search needs
@@ -39,21 +45,24 @@ same-length c = search needs
 
 returns : tie.Need-returns
 unfolding recordOf
-returns c = let a = c .before .before .before .before .before .before .before .before .before .before .before .args in
-    let n = length (now (a .body)) in
-    let room : a .at + 4 + n ≤ length (now (a .buffer)) = c .before .before .before .before .before .before .before .before .before .before .before .pre in (
-      refl,
-      copied-next (now (a .buffer)) _ _ (a .at) (a .at + 4) (0x50 ∷ a .mark ∷ high n ∷ low n ∷ []) (now (a .body)) (c .before .before .before .before .before .before .copy .ensures) (c .before .before .copy2 .ensures) refl room,
+returns c = let a = c .before .before .before .before .before .before .before .before .before .before .before .before .before .before .before .args in
+    let body = now (a .body) in
+    let room : a .at + frameSize + length body ≤ length (now (a .buffer)) = c .before .before .before .before .before .before .before .before .before .before .before .before .before .before .before .pre .1 in (
+      omega arith,
+      rw (c .before .before .copy2 .ensures, c .before .before .before .before .before .before .put-pair .ensures, c .before .before .before .before .before .before .before .before .before .before .copy .ensures)
+          (copied-each ((a .at, 0x50 ∷ a .mark ∷ []) ∷ (a .at + 2, pairOf (length body)) ∷ (a .at + frameSize, body) ∷ []) (now (a .buffer)) (a .at) (refl, (refl, (omega arith, tt))) (simp length-append (omega arith))
+          ∙ ap (λ (l : List ℕ). copied (now (a .buffer)) (a .at) ((0x50 ∷ a .mark ∷ pairOf (length body)) ++ l)) (append-nil body)),
     )
 
 pub put-record-spec : {M : Type 1} → statement M
 put-record-spec =
     tie.close
     (tie.spec
-    cast-t9
-    cast-t11
     slice-aggregate-copy
     copy-requires
+    add-put-pair
+    cast-put-pair
+    put-pair-requires
     add-copy
     copy-requires-2
     add-result

@@ -1,6 +1,7 @@
 -- `pattern::reader::end`: each return is the first condition that holds.
+use Rattle.common.specs.Choice.{if_then_else_}
 use borrow.Author.Tests.{lt-ltb, le-ltb}
-use Rattle.pattern.specs.Refusals.{unless}
+use Rattle.common.specs.Refusals.{unless}
 use Rattle.pattern.specs.Reader.{endConditions}
 use borrow.Author.Needs.{needs}
 use Rattle.pattern.proofs.reader.end.Statement.{statement}
@@ -10,15 +11,15 @@ is-fixed-requires : tie.Need-is-fixed-requires
 is-fixed-requires c κs = search needs
 
 returns : tie.Need-returns
-unfolding unless endConditions
+unfolding unless if_then_else_ endConditions
 returns c = simp (← c .before .is-fixed .ensures, c .if1 .taken)
 
 returns-2 : tie.Need-returns-2
-unfolding unless endConditions
+unfolding unless if_then_else_ endConditions
 returns-2 c = simp (← c .before .before .is-fixed .ensures, c .before .if1 .left, lt-ltb _ _ (c .if2 .taken))
 
 returns-3 : tie.Need-returns-3
-unfolding unless endConditions
+unfolding unless if_then_else_ endConditions
 returns-3 c = simp (← c .before .before .is-fixed .ensures, c .before .if1 .left, le-ltb _ _ (c .if2 .left))
 
 pub end-spec : {M : Type 1} → statement M

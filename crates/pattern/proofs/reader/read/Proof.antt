@@ -1,7 +1,7 @@
 -- `pattern::reader::read`: a refused record ends the reading, an accepted one leaves it to the next (Reading.antt).
 use mathlib.Core.Path.{sym, _∙_}
 use Rattle.pattern.specs.Reader.{readOf}
-use Rattle.pattern.proofs.Reading.{stops, after-version, after-partition, after-code, after-input}
+use Rattle.pattern.proofs.Reading.{stops, after-version, after-partition, after-code, after-input, after-end}
 use borrow.Author.Needs.{needs}
 use Rattle.pattern.proofs.reader.read.Statement.{statement}
 use Rattle.pattern.proofs.reader.read.Tie as tie
@@ -82,13 +82,28 @@ after-record-requires-4 c κs = search needs
 end-requires : tie.Need-end-requires
 end-requires c κs = search needs
 
+enum-told-8 : tie.Need-enum-told-8
+enum-told-8 c = search needs
+
+enum-told-9 : tie.Need-enum-told-9
+enum-told-9 c = search needs
+
 returns-5 : tie.Need-returns-5
-returns-5 c = c .end .ensures
+returns-5 c = stops _ _ (c .before .before .end .ensures) (c .enum-told9 .given .1) _
     ∙ sym (
-    after-version _ _ (c .before .before .before .before .before .before .before .before .before .before .before .before .before .before .after-record .ensures) (c .before .before .before .before .before .before .before .before .before .before .before .before .before .before .before .before .before .version .ensures) (c .before .before .before .before .before .before .before .before .before .before .before .before .before .before .before .enum-told .given .1)
-    ∙ after-partition _ _ (c .before .before .before .before .before .before .before .before .before .after-record2 .ensures) (c .before .before .before .before .before .before .before .before .before .before .before .before .before .partition .ensures) (c .before .before .before .before .before .before .before .before .before .before .before .second .given .1)
-    ∙ after-code _ _ _ (c .before .before .before .before .before .after-record3 .ensures) (c .before .before .before .before .before .before .before .before .code .ensures) (c .before .before .before .before .before .before .enum-told4 .given .1)
-    ∙ after-input _ _ _ (c .before .after-record4 .ensures) (c .before .before .before .before .input .ensures) (c .before .before .enum-told6 .given .1)
+    after-version _ _ (c .before .before .before .before .before .before .before .before .before .before .before .before .before .before .before .before .after-record .ensures) (c .before .before .before .before .before .before .before .before .before .before .before .before .before .before .before .before .before .before .before .version .ensures) (c .before .before .before .before .before .before .before .before .before .before .before .before .before .before .before .before .before .enum-told .given .1)
+    ∙ after-partition _ _ (c .before .before .before .before .before .before .before .before .before .before .before .after-record2 .ensures) (c .before .before .before .before .before .before .before .before .before .before .before .before .before .before .before .partition .ensures) (c .before .before .before .before .before .before .before .before .before .before .before .before .before .second .given .1)
+    ∙ after-code _ _ _ (c .before .before .before .before .before .before .before .after-record3 .ensures) (c .before .before .before .before .before .before .before .before .before .before .code .ensures) (c .before .before .before .before .before .before .before .before .enum-told4 .given .1)
+    ∙ after-input _ _ _ (c .before .before .before .after-record4 .ensures) (c .before .before .before .before .before .before .input .ensures) (c .before .before .before .before .enum-told6 .given .1)
+    )
+
+returns-6 : tie.Need-returns-6
+returns-6 c = sym (
+    after-version _ _ (c .before .before .before .before .before .before .before .before .before .before .before .before .before .before .before .before .after-record .ensures) (c .before .before .before .before .before .before .before .before .before .before .before .before .before .before .before .before .before .before .before .version .ensures) (c .before .before .before .before .before .before .before .before .before .before .before .before .before .before .before .before .before .enum-told .given .1)
+    ∙ after-partition _ _ (c .before .before .before .before .before .before .before .before .before .before .before .after-record2 .ensures) (c .before .before .before .before .before .before .before .before .before .before .before .before .before .before .before .partition .ensures) (c .before .before .before .before .before .before .before .before .before .before .before .before .before .second .given .1)
+    ∙ after-code _ _ _ (c .before .before .before .before .before .before .before .after-record3 .ensures) (c .before .before .before .before .before .before .before .before .before .before .code .ensures) (c .before .before .before .before .before .before .before .before .enum-told4 .given .1)
+    ∙ after-input _ _ _ (c .before .before .before .after-record4 .ensures) (c .before .before .before .before .before .before .input .ensures) (c .before .before .before .before .enum-told6 .given .1)
+    ∙ after-end _ _ (c .before .before .end .ensures) (c .enum-told8 .given .1)
     )
 
 pub read-spec : {M : Type 1} → statement M
@@ -116,4 +131,7 @@ read-spec =
     returns-4
     after-record-requires-4
     end-requires
-    returns-5)
+    enum-told-8
+    enum-told-9
+    returns-5
+    returns-6)

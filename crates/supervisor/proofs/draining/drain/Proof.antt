@@ -4,13 +4,16 @@ use native.Mathlib.Omega.{arith}
 use lib.ListN.{length}
 use borrow.Author.Tests.{eq-eqb, ne-eqb}
 use denote.Ref.{now}
-use Rattle.supervisor.specs.Events.{refusal, effect}
-use Rattle.supervisor.specs.Events as events
-use Rattle.supervisor.specs.Operations.{afterDrain, drainedCount, drainedBuffer}
+use Rattle.common.specs.Choice.{if_then_else_}
+use Rattle.slices.specs.Laws.{copied-none}
+use Rattle.supervisor.specs.Calls.{effect, patchOf, drainedCount, drainedBuffer}
+use Rattle.supervisor.specs.Calls as calls
+use Rattle.supervisor.specs.Changes.{drain-accepted}
+use Rattle.supervisor.specs.Operations.{patched, drainPatch}
 use Rattle.supervisor.specs.Table.{slotAt, withSlot}
-use Rattle.supervisor.proofs.Accepted.{drain-accepted}
+use Rattle.supervisor.proofs.Accepted.{held-end}
 use Rattle.supervisor.proofs.Drains.{drained-buffer}
-use Rattle.supervisor.proofs.Outcomes.{refused, accepted}
+use Rattle.supervisor.specs.Outcomes.{refused, accepted}
 use borrow.Author.Needs.{needs}
 use Rattle.supervisor.proofs.draining.drain.Statement.{statement}
 use Rattle.supervisor.proofs.draining.drain.Tie as tie
@@ -19,10 +22,10 @@ drain-refusal-requires : tie.Need-drain-refusal-requires
 drain-refusal-requires c κs = search needs
 
 returns : tie.Need-returns
-unfolding refusal drainedCount drainedBuffer
+unfolding drainedCount drainedBuffer if_then_else_
 returns c =
     let start = c .before .before .before .before .args in
-    (refused (events.drain (start .slot) (length (now (start .buffer)))) _ (c .before .drain-refusal .ensures) (c .if1 .taken), (rw (← c .before .drain-refusal .ensures, ne-eqb _ _ (c .if1 .taken)), rw (← c .before .drain-refusal .ensures, ne-eqb _ _ (c .if1 .taken))))
+    (refused (calls.change (start .slot) (calls.drain (length (now (start .buffer))))) _ (c .before .drain-refusal .ensures) (c .if1 .taken), (rw (← c .before .drain-refusal .ensures, ne-eqb _ _ (c .if1 .taken)), rw (← c .before .drain-refusal .ensures, ne-eqb _ _ (c .if1 .taken))))
 
 mul-s : tie.Need-mul-s
 mul-s c =
@@ -38,7 +41,13 @@ cast-count : tie.Need-cast-count
 cast-count c = search needs
 
 output-at-requires : tie.Need-output-at-requires
-output-at-requires c κs = search needs
+unfolding slotAt
+output-at-requires c κs =
+    let start = c .before .before .before .before .before .before .before .before .args in
+    held-end (start .t1) (start .slot) (drain-accepted _ (start .slot) (length (now (start .buffer))) (c .before .before .before .before .before .drain-refusal .ensures) (c .before .before .before .before .if1 .left) .0 .held)
+
+cast-part : tie.Need-cast-part
+cast-part c = search needs
 
 part-requires : tie.Need-part-requires
 part-requires c κs = search needs
@@ -49,24 +58,24 @@ copy-requires c κs = search needs
 emptied-requires : tie.Need-emptied-requires
 emptied-requires c κs = search needs
 
-mul-t14 : tie.Need-mul-t14
-mul-t14 c =
-    let start = c .before .before .before .before .before .before .before .before .before .before .before .before .before .before .before .args in
-    omega (arith, drain-accepted _ (start .slot) (length (now (start .buffer))) (c .before .before .before .before .before .before .before .before .before .before .before .before .drain-refusal .ensures) (c .before .before .before .before .before .before .before .before .before .before .before .if1 .left) .0 .held .slot)
+mul-t15 : tie.Need-mul-t15
+mul-t15 c =
+    let start = c .before .before .before .before .before .before .before .before .before .before .before .before .before .before .before .before .args in
+    omega (arith, drain-accepted _ (start .slot) (length (now (start .buffer))) (c .before .before .before .before .before .before .before .before .before .before .before .before .before .drain-refusal .ensures) (c .before .before .before .before .before .before .before .before .before .before .before .before .if1 .left) .0 .held .slot)
 
 element-set-from-next : tie.Need-element-set-from-next
 element-set-from-next c =
-    let start = c .before .before .before .before .before .before .before .before .before .before .before .before .before .before .before .args in
-    drain-accepted _ (start .slot) (length (now (start .buffer))) (c .before .before .before .before .before .before .before .before .before .before .before .before .drain-refusal .ensures) (c .before .before .before .before .before .before .before .before .before .before .before .if1 .left) .0 .held .slot
+    let start = c .before .before .before .before .before .before .before .before .before .before .before .before .before .before .before .before .args in
+    drain-accepted _ (start .slot) (length (now (start .buffer))) (c .before .before .before .before .before .before .before .before .before .before .before .before .before .drain-refusal .ensures) (c .before .before .before .before .before .before .before .before .before .before .before .before .if1 .left) .0 .held .slot
 
 same-length : tie.Need-same-length
 same-length c = search needs
 
 returns-2 : tie.Need-returns-2
-unfolding refusal effect afterDrain drainedCount withSlot slotAt
+unfolding effect patchOf patched drainPatch drainedCount withSlot slotAt if_then_else_
 returns-2 c =
-    let start = c .before .before .before .before .before .before .before .before .before .before .before .before .before .before .before .args in
-    (accepted (events.drain (start .slot) (length (now (start .buffer)))) _ _ _ (c .before .before .before .before .before .before .before .before .before .before .before .before .drain-refusal .ensures) (c .before .before .before .before .before .before .before .before .before .before .before .if1 .left) (rw (c .emptied .ensures)), (rw (← c .before .before .before .before .before .before .before .before .before .before .before .before .drain-refusal .ensures, eq-eqb _ _ (c .before .before .before .before .before .before .before .before .before .before .before .if1 .left)), c .before .before .before .copy .ensures ∙ rw (c .before .before .before .before .part .ensures, c .before .before .before .before .before .output-at .ensures) (drained-buffer _ (start .slot) (now (start .buffer)) (c .before .before .before .before .before .before .before .before .before .before .before .before .drain-refusal .ensures) (c .before .before .before .before .before .before .before .before .before .before .before .if1 .left))))
+    let start = c .before .before .before .before .before .before .before .before .before .before .before .before .before .before .before .before .args in
+    (accepted (calls.change (start .slot) (calls.drain (length (now (start .buffer))))) _ _ _ (c .before .before .before .before .before .before .before .before .before .before .before .before .before .drain-refusal .ensures) (c .before .before .before .before .before .before .before .before .before .before .before .before .if1 .left) (rw (c .emptied .ensures, copied-none)), (rw (← c .before .before .before .before .before .before .before .before .before .before .before .before .before .drain-refusal .ensures, eq-eqb _ _ (c .before .before .before .before .before .before .before .before .before .before .before .before .if1 .left)), c .before .before .before .copy .ensures ∙ rw (c .before .before .before .before .part .ensures, c .before .before .before .before .before .before .before .output-at .ensures) (drained-buffer _ (start .slot) (now (start .buffer)) (c .before .before .before .before .before .before .before .before .before .before .before .before .before .drain-refusal .ensures) (c .before .before .before .before .before .before .before .before .before .before .before .before .if1 .left))))
 
 pub drain-spec : {M : Type 1} → statement M
 drain-spec =
@@ -78,10 +87,11 @@ drain-spec =
     element-copy-out-s
     cast-count
     output-at-requires
+    cast-part
     part-requires
     copy-requires
     emptied-requires
-    mul-t14
+    mul-t15
     element-set-from-next
     same-length
     returns-2)

@@ -1,11 +1,16 @@
--- `supervisor::draining::drain_refusal`: the conditions of a taken slot first, then its own (Accepted.antt).
+-- `supervisor::draining::drain_refusal`: the conditions of a taken slot first, then its own.
+use denote.Ref.{now}
+use mathlib.Core.List.{_++_}
 use mathlib.Core.Path.{sym, _∙_}
 use native.Mathlib.Omega.{arith}
 use borrow.Author.Tests.{lt-ltb, le-ltb}
-use Rattle.pattern.specs.Refusals.{unless}
-use Rattle.supervisor.specs.Operations.{refusalBy}
+use Rattle.common.specs.Choice.{if_then_else_}
+use Rattle.common.specs.Refusals.{unless, refusalBy}
+use Rattle.common.specs.RefusalLaws.{stops, goes}
+use Rattle.supervisor.specs.Calls.{changeConditions, refusal}
+use Rattle.supervisor.specs.Conditions.{held-numbered, held-ready}
+use Rattle.supervisor.specs.Operations.{system, memoryConditions, loadedConditions, drainConditions}
 use Rattle.supervisor.specs.Table.{slotAt}
-use Rattle.supervisor.proofs.Accepted.{unload-accepted, drain-stops, drain-goes}
 use borrow.Author.Needs.{needs}
 use Rattle.supervisor.proofs.draining.drain_refusal.Statement.{statement}
 use Rattle.supervisor.proofs.draining.drain_refusal.Tie as tie
@@ -14,31 +19,31 @@ slot-refusal-requires : tie.Need-slot-refusal-requires
 slot-refusal-requires c κs = search needs
 
 returns : tie.Need-returns
-returns c =
-    let start = c .before .before .before .args in
-    drain-stops _ (start .slot) (start .room) (c .before .slot-refusal .ensures) (c .if1 .taken)
+unfolding refusal changeConditions
+returns c = stops _ _ (held-numbered _ (c .before .before .before .args .slot)) (c .before .slot-refusal .ensures) (c .if1 .taken)
 
 mul-s : tie.Need-mul-s
-mul-s c = omega (arith, unload-accepted _ (c .before .before .before .args .slot) (c .before .slot-refusal .ensures) (c .if1 .left) .held .slot)
+mul-s c =
+    omega (arith, held-ready _ (c .before .before .before .args .slot) (c .before .slot-refusal .ensures) (c .if1 .left) .held .slot)
 
 element-copy-out-s : tie.Need-element-copy-out-s
 element-copy-out-s c =
-    omega (arith, unload-accepted _ (c .before .before .before .args .slot) (c .before .slot-refusal .ensures) (c .if1 .left) .held .slot)
+    omega (arith, held-ready _ (c .before .before .before .args .slot) (c .before .slot-refusal .ensures) (c .if1 .left) .held .slot)
 
 cast-if2 : tie.Need-cast-if2
 cast-if2 c = search needs
 
 returns-2 : tie.Need-returns-2
-unfolding refusalBy unless slotAt
+unfolding refusalBy unless if_then_else_ refusal changeConditions drainConditions slotAt
 returns-2 c =
-    let start = c .before .before .before .before .before .before .before .args in
-    sym (drain-goes _ (start .slot) (start .room) (c .before .before .before .before .before .slot-refusal .ensures) (c .before .before .before .before .if1 .left) ∙ rw (lt-ltb _ _ (c .if2 .taken)))
+    let x = system (c .before .before .before .before .before .before .before .args .t1) (now (c .before .before .before .before .before .before .before .args .memory)) in
+    sym (goes (memoryConditions x ++ loadedConditions (c .before .before .before .before .before .before .before .args .t1) (c .before .before .before .before .before .before .before .args .slot)) (drainConditions (slotAt (c .before .before .before .before .before .before .before .args .t1) (c .before .before .before .before .before .before .before .args .slot)) (c .before .before .before .before .before .before .before .args .room)) (held-numbered x (c .before .before .before .before .before .before .before .args .slot)) (c .before .before .before .before .before .slot-refusal .ensures) (c .before .before .before .before .if1 .left) ∙ rw (lt-ltb _ _ (c .if2 .taken)))
 
 returns-3 : tie.Need-returns-3
-unfolding refusalBy unless slotAt
+unfolding refusalBy unless if_then_else_ refusal changeConditions drainConditions slotAt
 returns-3 c =
-    let start = c .before .before .before .before .before .before .before .args in
-    sym (drain-goes _ (start .slot) (start .room) (c .before .before .before .before .before .slot-refusal .ensures) (c .before .before .before .before .if1 .left) ∙ rw (le-ltb _ _ (c .if2 .left)))
+    let x = system (c .before .before .before .before .before .before .before .args .t1) (now (c .before .before .before .before .before .before .before .args .memory)) in
+    sym (goes (memoryConditions x ++ loadedConditions (c .before .before .before .before .before .before .before .args .t1) (c .before .before .before .before .before .before .before .args .slot)) (drainConditions (slotAt (c .before .before .before .before .before .before .before .args .t1) (c .before .before .before .before .before .before .before .args .slot)) (c .before .before .before .before .before .before .before .args .room)) (held-numbered x (c .before .before .before .before .before .before .before .args .slot)) (c .before .before .before .before .before .slot-refusal .ensures) (c .before .before .before .before .if1 .left) ∙ rw (le-ltb _ _ (c .if2 .left)))
 
 pub drain-refusal-spec : {M : Type 1} → statement M
 drain-refusal-spec =

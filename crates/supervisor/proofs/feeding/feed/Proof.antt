@@ -1,12 +1,13 @@
--- `supervisor::feeding::feed`: an accepted call names one of the eight slots, and its bytes fit the input buffer (Accepted.antt).
+-- `supervisor::feeding::feed`: an accepted call names one of the eight slots, and its bytes fit the input buffer (Changes.antt).
 use native.Mathlib.Omega.{arith}
 use denote.Ref.{now}
-use Rattle.supervisor.specs.Events.{refusal, effect}
-use Rattle.supervisor.specs.Events as events
-use Rattle.supervisor.specs.Operations.{afterFeed}
+use Rattle.supervisor.specs.Calls.{effect, patchOf}
+use Rattle.supervisor.specs.Calls as calls
+use Rattle.supervisor.specs.Changes.{feed-accepted}
+use Rattle.supervisor.specs.Operations.{patched, feedPatch}
 use Rattle.supervisor.specs.Table.{slotAt, withSlot}
-use Rattle.supervisor.proofs.Accepted.{feed-accepted, input-small}
-use Rattle.supervisor.proofs.Outcomes.{refused, accepted}
+use Rattle.supervisor.proofs.Accepted.{held-end}
+use Rattle.supervisor.specs.Outcomes.{refused, accepted}
 use borrow.Author.Needs.{needs}
 use Rattle.supervisor.proofs.feeding.feed.Statement.{statement}
 use Rattle.supervisor.proofs.feeding.feed.Tie as tie
@@ -18,10 +19,9 @@ same-length : tie.Need-same-length
 same-length c = search needs
 
 returns : tie.Need-returns
-unfolding refusal
 returns c =
     let start = c .before .before .before .before .before .args in
-    refused (events.feed (start .slot) (now (start .bytes))) _ (c .before .feed-refusal .ensures) (c .if1 .taken)
+    refused (calls.change (start .slot) (calls.feed (now (start .bytes)))) _ (c .before .feed-refusal .ensures) (c .if1 .taken)
 
 mul-s : tie.Need-mul-s
 mul-s c =
@@ -34,38 +34,44 @@ element-copy-out-s c =
     feed-accepted _ (start .slot) (now (start .bytes)) (c .before .feed-refusal .ensures) (c .if1 .left) .0 .held .slot
 
 input-at-requires : tie.Need-input-at-requires
-input-at-requires c κs = search needs
+unfolding slotAt
+input-at-requires c κs =
+    let start = c .before .before .before .before .before .before .before .args in
+    held-end (start .t1) (start .slot) (feed-accepted _ (start .slot) (now (start .bytes)) (c .before .before .before .feed-refusal .ensures) (c .before .before .if1 .left) .0 .held)
+
+cast-copy : tie.Need-cast-copy
+cast-copy c = search needs
 
 copy-requires : tie.Need-copy-requires
 copy-requires c κs = search needs
 
 cast-fed : tie.Need-cast-fed
 cast-fed c =
-    let start = c .before .before .before .before .before .before .before .before .before .before .before .before .args in
-    let h = feed-accepted _ (start .slot) (now (start .bytes)) (c .before .before .before .before .before .before .before .before .feed-refusal .ensures) (c .before .before .before .before .before .before .before .if1 .left) in
-    omega (arith, h .1, input-small (start .t1) (start .slot) (h .0 .held))
+    let start = c .before .before .before .before .before .before .before .before .before .before .before .before .before .args in
+    let h = feed-accepted _ (start .slot) (now (start .bytes)) (c .before .before .before .before .before .before .before .before .before .feed-refusal .ensures) (c .before .before .before .before .before .before .before .before .if1 .left) in
+    omega (arith, h .1, h .0 .held .loaded .partition .layout .input .fits)
 
 fed-requires : tie.Need-fed-requires
 fed-requires c κs = search needs
 
-mul-t16 : tie.Need-mul-t16
-mul-t16 c =
-    let start = c .before .before .before .before .before .before .before .before .before .before .before .before .before .args in
-    omega (arith, feed-accepted _ (start .slot) (now (start .bytes)) (c .before .before .before .before .before .before .before .before .before .feed-refusal .ensures) (c .before .before .before .before .before .before .before .before .if1 .left) .0 .held .slot)
+mul-t17 : tie.Need-mul-t17
+mul-t17 c =
+    let start = c .before .before .before .before .before .before .before .before .before .before .before .before .before .before .args in
+    omega (arith, feed-accepted _ (start .slot) (now (start .bytes)) (c .before .before .before .before .before .before .before .before .before .before .feed-refusal .ensures) (c .before .before .before .before .before .before .before .before .before .if1 .left) .0 .held .slot)
 
 element-set-from-next : tie.Need-element-set-from-next
 element-set-from-next c =
-    let start = c .before .before .before .before .before .before .before .before .before .before .before .before .before .args in
-    feed-accepted _ (start .slot) (now (start .bytes)) (c .before .before .before .before .before .before .before .before .before .feed-refusal .ensures) (c .before .before .before .before .before .before .before .before .if1 .left) .0 .held .slot
+    let start = c .before .before .before .before .before .before .before .before .before .before .before .before .before .before .args in
+    feed-accepted _ (start .slot) (now (start .bytes)) (c .before .before .before .before .before .before .before .before .before .before .feed-refusal .ensures) (c .before .before .before .before .before .before .before .before .before .if1 .left) .0 .held .slot
 
 same-length-2 : tie.Need-same-length-2
 same-length-2 c = search needs
 
 returns-2 : tie.Need-returns-2
-unfolding refusal effect afterFeed withSlot slotAt
+unfolding effect patchOf patched feedPatch withSlot slotAt
 returns-2 c =
-    let start = c .before .before .before .before .before .before .before .before .before .before .before .before .before .args in
-    accepted (events.feed (start .slot) (now (start .bytes))) _ _ _ (c .before .before .before .before .before .before .before .before .before .feed-refusal .ensures) (c .before .before .before .before .before .before .before .before .if1 .left) (rw (c .fed .ensures, c .before .before .before .copy .ensures, c .before .before .before .before .input-at .ensures))
+    let start = c .before .before .before .before .before .before .before .before .before .before .before .before .before .before .args in
+    accepted (calls.change (start .slot) (calls.feed (now (start .bytes)))) _ _ _ (c .before .before .before .before .before .before .before .before .before .before .feed-refusal .ensures) (c .before .before .before .before .before .before .before .before .before .if1 .left) (rw (c .fed .ensures, c .before .before .before .copy .ensures, c .before .before .before .before .before .before .input-at .ensures))
 
 pub feed-spec : {M : Type 1} → statement M
 feed-spec =
@@ -77,10 +83,11 @@ feed-spec =
     mul-s
     element-copy-out-s
     input-at-requires
+    cast-copy
     copy-requires
     cast-fed
     fed-requires
-    mul-t16
+    mul-t17
     element-set-from-next
     same-length-2
     returns-2)

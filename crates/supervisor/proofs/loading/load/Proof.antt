@@ -1,12 +1,13 @@
 -- `supervisor::loading::load`: the conditions come in the order slot, file, place (Loads.antt), and what is left in two laws for every call (Outcomes.antt).
-use mathlib.Core.Path.{sym, _∙_}
-use native.Mathlib.Omega.{arith}
+use mathlib.Core.Path.{sym, ap, _∙_}
 use denote.Ref.{now}
-use Rattle.supervisor.specs.Events.{refusal, effect}
-use Rattle.supervisor.specs.Events as events
-use Rattle.supervisor.specs.Operations.{system, partitionFor}
-use Rattle.supervisor.proofs.Loads.{load-stops, load-refused, load-places, free-accepted, place-inside}
-use Rattle.supervisor.proofs.Outcomes.{refused, accepted}
+use Rattle.common.specs.Refusals.{refusalBy}
+use Rattle.supervisor.specs.Calls.{effect, patchOf}
+use Rattle.supervisor.specs.Calls as calls
+use Rattle.supervisor.specs.Operations.{system, partitionFor, placeConditions}
+use Rattle.supervisor.specs.declared.table.Partition.{Partition}
+use Rattle.supervisor.proofs.Loads.{load-stops, load-refused, load-places, free-accepted}
+use Rattle.supervisor.specs.Outcomes.{refused, accepted}
 use borrow.Author.Needs.{needs}
 use Rattle.supervisor.proofs.loading.load.Statement.{statement}
 use Rattle.supervisor.proofs.loading.load.Tie as tie
@@ -18,10 +19,9 @@ same-length : tie.Need-same-length
 same-length c = search needs
 
 returns : tie.Need-returns
-unfolding refusal
 returns c =
     let start = c .before .before .before .before .before .args in
-    refused (events.load (start .slot) (start .location) (now (start .file))) _ (load-stops _ (start .slot) (start .location) (now (start .file)) (c .before .free-refusal .ensures) (c .if1 .taken)) (c .if1 .taken)
+    refused (calls.change (start .slot) (calls.load (start .location) (now (start .file)))) _ (load-stops _ (start .slot) (start .location) (now (start .file)) (c .before .free-refusal .ensures) (c .if1 .taken)) (c .if1 .taken)
 
 read-requires : tie.Need-read-requires
 read-requires c κs = search needs
@@ -39,11 +39,13 @@ same-length-2 : tie.Need-same-length-2
 same-length-2 c = search needs
 
 returns-2 : tie.Need-returns-2
-unfolding refusal
 returns-2 c =
     let start = c .before .before .before .before .before .before .before .before .before .args in
     let h = load-refused _ (start .slot) (start .location) (now (start .file)) (c .before .before .before .before .before .free-refusal .ensures) (c .before .before .before .before .if1 .left) (c .before .before .before .read .result) (c .before .before .before .read .ensures) (c .before .enum-told .given .1) in
-    refused (events.load (start .slot) (start .location) (now (start .file))) _ (c .refusal .ensures ∙ h .0) (λ z. h .1 (sym (c .refusal .ensures) ∙ z))
+    refused (calls.change (start .slot) (calls.load (start .location) (now (start .file)))) _ (c .refusal .ensures ∙ h .0) (λ z. h .1 (sym (c .refusal .ensures) ∙ z))
+
+partition-for-requires : tie.Need-partition-for-requires
+partition-for-requires c κs = search needs
 
 place-refusal-requires : tie.Need-place-refusal-requires
 place-refusal-requires c κs = search needs
@@ -52,32 +54,27 @@ same-length-3 : tie.Need-same-length-3
 same-length-3 c = search needs
 
 returns-3 : tie.Need-returns-3
-unfolding refusal
 returns-3 c =
-    let start = c .before .before .before .before .before .before .before .before .before .before .before .args in
-    refused (events.load (start .slot) (start .location) (now (start .file))) _ (c .before .place-refusal .ensures ∙ sym (load-places _ (start .slot) (start .location) (now (start .file)) (c .before .before .before .before .before .before .before .free-refusal .ensures) (c .before .before .before .before .before .before .if1 .left) (c .before .before .before .before .before .read .result) (c .before .before .before .before .before .read .ensures) (c .before .before .before .answer .given .1))) (c .if2 .taken)
-
-cast-loaded : tie.Need-cast-loaded
-unfolding partitionFor
-cast-loaded c =
     let start = c .before .before .before .before .before .before .before .before .before .before .before .before .args in
-    let h = free-accepted (system (start .table) (now (start .memory))) (start .slot) (c .before .before .before .before .before .before .before .before .free-refusal .ensures) (c .before .before .before .before .before .before .before .if1 .left) in
-    omega (arith, place-inside (start .table) (start .slot) (partitionFor (start .location) (c .before .before .before .before .answer .given .0 .0)) (c .before .before .place-refusal .ensures) (c .before .if2 .left), h .size)
+    let h = load-places _ (start .slot) (start .location) (now (start .file)) (c .before .before .before .before .before .before .before .before .free-refusal .ensures) (c .before .before .before .before .before .before .before .if1 .left) (c .before .before .before .before .before .before .read .result) (c .before .before .before .before .before .before .read .ensures) (c .before .before .before .before .answer .given .1) in
+    refused (calls.change (start .slot) (calls.load (start .location) (now (start .file)))) _ (c .before .place-refusal .ensures ∙ ap (λ (p : Partition). refusalBy (placeConditions (start .table) (start .slot) p)) (c .before .before .partition-for .ensures) ∙ sym h) (c .if2 .taken)
 
 loaded-requires : tie.Need-loaded-requires
+unfolding partitionFor
 loaded-requires c κs =
-    let start = c .before .before .before .before .before .before .before .before .before .before .before .before .args in
-    let h = free-accepted (system (start .table) (now (start .memory))) (start .slot) (c .before .before .before .before .before .before .before .before .free-refusal .ensures) (c .before .before .before .before .before .before .before .if1 .left) in
-    (h .slot, (sym (c .before .before .before .before .before .before .read .ensures) ∙ c .before .before .before .before .answer .given .1, omega (arith, place-inside (start .table) (start .slot) (partitionFor (start .location) (c .before .before .before .before .answer .given .0 .0)) (c .before .before .place-refusal .ensures) (c .before .if2 .left), h .length-is)))
+    let start = c .before .before .before .before .before .before .before .before .before .before .before .before .before .args in
+    let h = free-accepted (system (start .table) (now (start .memory))) (start .slot) (c .before .before .before .before .before .before .before .before .before .free-refusal .ensures) (c .before .before .before .before .before .before .before .before .if1 .left) in
+    (h .1, (sym (c .before .before .before .before .before .before .before .read .ensures) ∙ c .before .before .before .before .before .answer .given .1, rw (c .before .before .before .partition-for .ensures)))
 
 same-length-4 : tie.Need-same-length-4
 same-length-4 c = search needs
 
 returns-4 : tie.Need-returns-4
-unfolding refusal effect
+unfolding effect patchOf partitionFor
 returns-4 c =
-    let start = c .before .before .before .before .before .before .before .before .before .before .before .before .before .before .before .args in
-    accepted (events.load (start .slot) (start .location) (now (start .file))) _ _ _ (c .before .before .before .before .before .place-refusal .ensures ∙ sym (load-places _ (start .slot) (start .location) (now (start .file)) (c .before .before .before .before .before .before .before .before .before .before .before .free-refusal .ensures) (c .before .before .before .before .before .before .before .before .before .before .if1 .left) (c .before .before .before .before .before .before .before .before .before .read .result) (c .before .before .before .before .before .before .before .before .before .read .ensures) (c .before .before .before .before .before .before .before .answer .given .1))) (c .before .before .before .before .if2 .left) (c .before .before .loaded .ensures)
+    let start = c .before .before .before .before .before .before .before .before .before .before .before .before .before .before .before .before .args in
+    let h = load-places _ (start .slot) (start .location) (now (start .file)) (c .before .before .before .before .before .before .before .before .before .before .before .before .free-refusal .ensures) (c .before .before .before .before .before .before .before .before .before .before .before .if1 .left) (c .before .before .before .before .before .before .before .before .before .before .read .result) (c .before .before .before .before .before .before .before .before .before .before .read .ensures) (c .before .before .before .before .before .before .before .before .answer .given .1) in
+    accepted (calls.change (start .slot) (calls.load (start .location) (now (start .file)))) _ _ _ (c .before .before .before .before .before .place-refusal .ensures ∙ ap (λ (p : Partition). refusalBy (placeConditions (start .table) (start .slot) p)) (c .before .before .before .before .before .before .partition-for .ensures) ∙ sym h) (c .before .before .before .before .if2 .left) (c .before .before .loaded .ensures ∙ rw (c .before .before .before .before .before .before .partition-for .ensures))
 
 pub load-spec : {M : Type 1} → statement M
 load-spec =
@@ -92,10 +89,10 @@ load-spec =
     refusal-requires
     same-length-2
     returns-2
+    partition-for-requires
     place-refusal-requires
     same-length-3
     returns-3
-    cast-loaded
     loaded-requires
     same-length-4
     returns-4)

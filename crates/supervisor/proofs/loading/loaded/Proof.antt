@@ -1,42 +1,33 @@
--- `supervisor::loading::loaded`: an accepted file's bodies fit its values, so the whole partition is written.
-use Prim.Native.Nat.{ℕ}
+-- `supervisor::loading::loaded`: the patch of an accepted file.
 use mathlib.Core.List.{List}
 use mathlib.Core.Path.{ap}
 use native.Mathlib.Omega.{arith}
+use Prim.Native.Nat.{ℕ}
 use lib.ListN.{length}
 use denote.Ref.{now}
-use Rattle.pattern.specs.ReaderLaws.{accepted-passes, code-fits, input-fits, read-ranges}
-use Rattle.supervisor.specs.Operations.{partitionFor, loadedBytes, afterLoad}
+use Rattle.pattern.specs.ReaderLaws.{accepted-passes, input-fits, read-ranges}
+use Rattle.supervisor.specs.Operations.{partitionFor, patched, loadPatch}
 use Rattle.supervisor.specs.Table.{withSlot}
 use borrow.Author.Needs.{needs}
 use Rattle.supervisor.proofs.loading.loaded.Statement.{statement}
 use Rattle.supervisor.proofs.loading.loaded.Tie as tie
 
-partition-for-requires : tie.Need-partition-for-requires
-partition-for-requires c κs = search needs
+put-requires : tie.Need-put-requires
+put-requires c κs = search needs
 
 input-body-requires : tie.Need-input-body-requires
 input-body-requires c κs = search needs
 
-code-body-requires : tie.Need-code-body-requires
-code-body-requires c κs = search needs
+cast-fresh : tie.Need-cast-fresh
+cast-fresh c =
+    let start = c .before .before .before .before .before .before .before .args in
+    omega (arith, ap (λ (l : List ℕ). length l) (c .input-body .ensures), input-fits (now (start .file)) (start .v) (c .before .before .before .before .before .before .before .pre .1 .0), read-ranges (now (start .file)) (start .v) (c .before .before .before .before .before .before .before .pre .1 .0) .layout .input .fits)
 
-put-pattern-requires : tie.Need-put-pattern-requires
-unfolding partitionFor
-put-pattern-requires c κs =
-    let start = c .before .before .before .before .before .before .args in
-    (rw (c .before .before .before .partition-for .ensures, c .code-body .ensures) (code-fits (now (start .file)) (start .v) (c .before .before .before .before .before .before .pre .1 .0)), (rw (c .before .before .before .partition-for .ensures, c .before .before .input-body .ensures) (input-fits (now (start .file)) (start .v) (c .before .before .before .before .before .before .pre .1 .0)), rw (c .before .before .before .partition-for .ensures) (c .before .before .before .before .before .before .pre .1 .1)))
+fresh-requires : tie.Need-fresh-requires
+fresh-requires c κs = search needs
 
-cast-fresh-state : tie.Need-cast-fresh-state
-cast-fresh-state c =
-    let start = c .before .before .before .before .before .before .before .before .before .args in
-    omega (arith, ap (λ (l : List ℕ). length l) (c .before .before .before .before .before .input-body .ensures), input-fits (now (start .file)) (start .v) (c .before .before .before .before .before .before .before .before .before .pre .1 .0), read-ranges (now (start .file)) (start .v) (c .before .before .before .before .before .before .before .before .before .pre .1 .0) .input .fits)
-
-fresh-state-requires : tie.Need-fresh-state-requires
-fresh-state-requires c κs = search needs
-
-mul-t15 : tie.Need-mul-t15
-mul-t15 c = search needs
+mul-t13 : tie.Need-mul-t13
+mul-t13 c = search needs
 
 element-set-from-next : tie.Need-element-set-from-next
 element-set-from-next c = search needs
@@ -45,22 +36,20 @@ same-length : tie.Need-same-length
 same-length c = search needs
 
 returns : tie.Need-returns
-unfolding partitionFor loadedBytes afterLoad withSlot
+unfolding partitionFor patched loadPatch withSlot
 returns c =
-    let start = c .before .before .before .before .before .before .before .before .before .before .args in
-    rw (accepted-passes (now (start .file)) (start .v) (c .before .before .before .before .before .before .before .before .before .before .pre .1 .0) .same, c .fresh-state .ensures, c .before .before .before .put-pattern .ensures, c .before .before .before .before .code-body .ensures, c .before .before .before .before .before .before .input-body .ensures, c .before .before .before .before .before .before .before .partition-for .ensures)
+    let start = c .before .before .before .before .before .before .before .before .args in
+    rw (accepted-passes (now (start .file)) (start .v) (c .before .before .before .before .before .before .before .before .pre .1 .0) .same, c .fresh .ensures, c .before .before .before .before .put .ensures, c .before .input-body .ensures, ← c .before .before .before .before .before .before .before .before .pre .1 .1)
 
 pub loaded-spec : {M : Type 1} → statement M
 loaded-spec =
     tie.close
     (tie.spec
-    partition-for-requires
+    put-requires
     input-body-requires
-    code-body-requires
-    put-pattern-requires
-    cast-fresh-state
-    fresh-state-requires
-    mul-t15
+    cast-fresh
+    fresh-requires
+    mul-t13
     element-set-from-next
     same-length
     returns)

@@ -1,10 +1,10 @@
--- `supervisor::location::input_at`: by what `located` ensures.
-use borrow.Author.Needs.{needs}
+-- `supervisor::location::input_at`: the window ends inside the partition.
+use native.Mathlib.Omega.{arith}
 use Rattle.supervisor.proofs.location.input_at.Statement.{statement}
 use Rattle.supervisor.proofs.location.input_at.Tie as tie
 
 located-requires : tie.Need-located-requires
-located-requires c κs = search needs
+located-requires c κs = omega (arith, c .before .pre)
 
 returns : tie.Need-returns
 returns c = c .located .ensures

@@ -1,53 +1,22 @@
--- `supervisor::refusals::slot_refusal`: the conditions of table and memory first (Accepted.antt).
+-- `supervisor::refusals::slot_refusal`: a front that refuses, and one that does not.
 use mathlib.Core.Path.{sym, _∙_}
-use native.Mathlib.Omega.{arith}
-use borrow.Author.Tests.{eq-eqb, ne-eqb, lt-ltb, le-ltb}
-use Rattle.pattern.specs.Refusals.{unless}
-use Rattle.supervisor.specs.Operations.{refusalBy}
-use Rattle.supervisor.specs.Table.{slotAt}
-use Rattle.supervisor.proofs.Accepted.{unload-stops, unload-goes}
+use Rattle.common.specs.RefusalLaws.{stops, goes}
+use Rattle.supervisor.specs.Conditions.{memory-numbered}
 use borrow.Author.Needs.{needs}
 use Rattle.supervisor.proofs.refusals.slot_refusal.Statement.{statement}
 use Rattle.supervisor.proofs.refusals.slot_refusal.Tie as tie
 
-table-refusal-requires : tie.Need-table-refusal-requires
-table-refusal-requires c κs = search needs
+memory-refusal-requires : tie.Need-memory-refusal-requires
+memory-refusal-requires c κs = search needs
 
 returns : tie.Need-returns
-returns c = unload-stops _ (c .before .before .before .args .slot) (c .before .table-refusal .ensures) (c .if1 .taken)
+returns c = stops _ _ (memory-numbered _) (c .before .memory-refusal .ensures) (c .if1 .taken)
+
+loaded-refusal-requires : tie.Need-loaded-refusal-requires
+loaded-refusal-requires c κs = search needs
 
 returns-2 : tie.Need-returns-2
-unfolding refusalBy unless
-returns-2 c =
-    let start = c .before .before .before .before .args in
-    sym (unload-goes _ (start .slot) (c .before .before .table-refusal .ensures) (c .before .if1 .left) ∙ rw (lt-ltb 7 (start .slot) (c .if2 .taken)))
-
-mul-s : tie.Need-mul-s
-mul-s c = search needs
-
-element-copy-out-s : tie.Need-element-copy-out-s
-element-copy-out-s c = search needs
-
-returns-3 : tie.Need-returns-3
-unfolding refusalBy unless slotAt
-returns-3 c =
-    let start = c .before .before .before .before .before .before .before .before .args in
-    sym (unload-goes _ (start .slot) (c .before .before .before .before .before .before .table-refusal .ensures) (c .before .before .before .before .before .if1 .left) ∙ rw (le-ltb 7 (start .slot) (omega arith), eq-eqb _ _ (c .if3 .taken)))
-
-returns-4 : tie.Need-returns-4
-unfolding refusalBy unless slotAt
-returns-4 c =
-    let start = c .before .before .before .before .before .before .before .before .args in
-    sym (unload-goes _ (start .slot) (c .before .before .before .before .before .before .table-refusal .ensures) (c .before .before .before .before .before .if1 .left) ∙ rw (le-ltb 7 (start .slot) (omega arith), ne-eqb _ _ (c .if3 .left)))
+returns-2 c = c .loaded-refusal .ensures ∙ sym (goes _ _ (memory-numbered _) (c .before .before .memory-refusal .ensures) (c .before .if1 .left))
 
 pub slot-refusal-spec : {M : Type 1} → statement M
-slot-refusal-spec =
-    tie.close
-    (tie.spec
-    table-refusal-requires
-    returns
-    returns-2
-    mul-s
-    element-copy-out-s
-    returns-3
-    returns-4)
+slot-refusal-spec = tie.close (tie.spec memory-refusal-requires returns loaded-refusal-requires returns-2)

@@ -1,5 +1,6 @@
 use Rattle.supervisor.proofs.RoundLaws.{quantum-state, quantum-memory}
-use Rattle.supervisor.specs.Table.{bytesIn, endOf}
+use Rattle.common.specs.Layouts.{bytesIn}
+use Rattle.supervisor.specs.Table.{endOf}
 use Rattle.slices.specs.Laws.{part-length}
 use Prim.Native.Nat.{_+_, _-_, _≤_}
 use mathlib.Core.Path.{_≡_, sym, _∙_}
@@ -49,13 +50,13 @@ same-length : tie.Need-same-length
 same-length c = search needs
 
 returns : tie.Need-returns
-returns c = let a = c .before .before .before .before .before .before .before .before .before .before .before .before .args in
+returns c = let a = c .before .before .before .before .before .before .before .before .before .before .before .before .before .before .args in
     let p = a .slot .partition in
-    let n : p .base + p .window + p .input + p .output - p .base ≡ bytesIn p = omega arith in
-    let l : endOf p ≤ length (a .memory .now) = c .before .before .before .before .before .before .before .before .before .before .before .before .pre in
-    let size : length (c .before .before .run .last .1 .0) ≡ bytesIn p = c .before .before .run .kept .1 .0 ∙ part-length (a .memory .now) (p .base) _ (omega arith) ∙ n in (
-      quantum-state (a .slot) (a .memory .now) (c .before .before .run .last .1 .0) (c .before .before .run .result) _ n (c .before .before .before .before .before .before .before .before .before .before .before .before .pre) (size ∙ sym n) (c .before .before .run .ensures .0),
-      quantum-memory (a .slot) (a .memory .now) (c .before .before .run .last .1 .0) (c .before .before .run .result) _ n (c .before .before .before .before .before .before .before .before .before .before .before .before .pre) (size ∙ sym n) (c .before .before .run .ensures .0),
+    let n : p .base .0 + p .layout .window + p .layout .input + p .layout .output - p .base .0 ≡ bytesIn (p .layout) = omega arith in
+    let l : endOf p ≤ length (a .memory .now) = c .before .before .before .before .before .before .before .before .before .before .before .before .before .before .pre in
+    let size : length (c .before .before .run .last .1 .0) ≡ bytesIn (p .layout) = c .before .before .run .kept .1 .0 ∙ part-length (a .memory .now) (p .base .0) _ (omega arith) ∙ n in (
+      quantum-state (a .slot) (a .memory .now) (c .before .before .run .last .1 .0) (c .before .before .run .result) _ n (c .before .before .before .before .before .before .before .before .before .before .before .before .before .before .pre) (size ∙ sym n) (c .before .before .run .ensures .0),
+      quantum-memory (a .slot) (a .memory .now) (c .before .before .run .last .1 .0) (c .before .before .run .result) _ n (c .before .before .before .before .before .before .before .before .before .before .before .before .before .before .pre) (size ∙ sym n) (c .before .before .run .ensures .0),
     )
 
 pub quantum-spec : {M : Type 1} → statement M

@@ -1,9 +1,9 @@
 use Rattle.supervisor.specs.declared.table.Table.{Table}
-use Rattle.supervisor.proofs.RoundLaws.{turn-taken, turn-passed, turns-zero, turns-more, turns-good, rounds-zero, rounds-more, rounds-good, rounds-done, start-good}
+use Rattle.supervisor.proofs.RoundLaws.{turn-taken, turn-passed, turns-zero, turns-more, turns-good, rounds-begin, rounds-more, rounds-good, rounds-done, start-good}
 use Rattle.supervisor.specs.Operations.{System, system, turns}
-use Rattle.supervisor.specs.Rounds.{slot-inside}
+use Rattle.supervisor.specs.Patches.{slot-inside}
 use Rattle.supervisor.specs.Table.{slotAt, withSlot}
-use Rattle.cpu.specs.Machine.{times}
+use Rattle.common.specs.Repetition.{times}
 use Prim.Native.Nat.{_-_, _≤_, _<_}
 use mathlib.Core.Path.{_≡_, refl, ap, _∙_}
 use mathlib.Core.Logic.{⊎-elim}
@@ -13,19 +13,19 @@ use Rattle.supervisor.proofs.running.rounds.Statement.{statement}
 use Rattle.supervisor.proofs.running.rounds.Tie as tie
 
 abbrev Inv-loop2 : tie.InvT-loop2
-Inv-loop2 memory₀ count next₀ c k₀ memory next k = (k ≤ 8) × (length memory ≡ length memory₀) × (system next memory ≡ turns k (system next₀ memory₀))
+Inv-loop2 memory₀ count next₀ left k₀ memory next k = (k ≤ 8) × (length memory ≡ length memory₀) × (system next memory ≡ turns k (system next₀ memory₀))
 
 abbrev μ-loop2 : tie.MeasureT-loop2
-μ-loop2 memory₀ count next₀ c k₀ memory next k = 8 - k
+μ-loop2 memory₀ count next₀ left k₀ memory next k = 8 - k
 
 abbrev Inv-loop : tie.InvT-loop
-Inv-loop memory₀ count next₀ c₀ memory next c = (c ≤ count) × (length memory ≡ length memory₀) × (system next memory ≡ times c (turns 8) (system next₀ memory₀))
+Inv-loop memory₀ count next₀ left₀ memory next left = (left ≤ left₀) × (length memory ≡ length memory₀) × (system next memory ≡ times (left₀ - left) (turns 8) (system next₀ memory₀))
 
 abbrev μ-loop : tie.MeasureT-loop
-μ-loop memory₀ count next₀ c₀ memory next c = count - c
+μ-loop memory₀ count next₀ left₀ memory next left = left
 
 loop-holds : tie.Need-loop-holds Inv-loop2 μ-loop2 Inv-loop μ-loop
-loop-holds c = (omega arith, refl, rounds-zero _)
+loop-holds c = (omega arith, refl, rounds-begin _ _)
 
 loop2-holds : tie.Need-loop2-holds Inv-loop2 μ-loop2 Inv-loop μ-loop
 loop2-holds c = (omega arith, refl, turns-zero _)
@@ -42,7 +42,7 @@ quantum-requires c κs = let outer = c .before .before .before .before .before .
     let inner = c .before .before .before .before .before .loop2 in
     let start = c .before .before .before .before .before .before .before .before .before .args in
     let g = start-good (start .table) (start .memory .now) (c .before .before .before .before .before .before .before .before .before .pre .0) (c .before .before .before .before .before .before .before .before .before .pre .1) in
-    let o = rounds-good (outer .c) _ (system (outer .next) (outer .memory)) g (outer .inv .2) in
+    let o = rounds-good _ _ (system (outer .next) (outer .memory)) g (outer .inv .2) in
     let i = turns-good (inner .k) _ (system (inner .next) (inner .memory)) (inner .inv .0) o (inner .inv .2) in
     slot-inside (system (inner .next) (inner .memory)) i (inner .k) (omega arith)
 
@@ -64,7 +64,7 @@ loop2-again c = let outer = c .before .before .before .before .before .loop in
     let inner = c .before .before .before .loop2 in
     let start = c .before .before .before .before .before .before .before .args in
     let g = start-good (start .table) (start .memory .now) (c .before .before .before .before .before .before .before .pre .0) (c .before .before .before .before .before .before .before .pre .1) in
-    let o = rounds-good (outer .c) _ (system (outer .next) (outer .memory)) g (outer .inv .2) in
+    let o = rounds-good _ _ (system (outer .next) (outer .memory)) g (outer .inv .2) in
     let y : System = system (inner .next) (inner .memory) in
     let i = turns-good (inner .k) _ y (inner .inv .0) o (inner .inv .2) in
     let q : inner .k < 8 = omega arith in
@@ -85,20 +85,20 @@ loop2-again c = let outer = c .before .before .before .before .before .loop in
     ))
     (c .if1 .came)
 
-add-c : tie.Need-add-c Inv-loop2 μ-loop2 Inv-loop μ-loop
-add-c c = omega (arith, c .before .before .before .before .before .fits .count .fits)
+sub-left : tie.Need-sub-left Inv-loop2 μ-loop2 Inv-loop μ-loop
+sub-left c = omega arith
 
 loop-less : tie.Need-loop-less Inv-loop2 μ-loop2 Inv-loop μ-loop
 loop-less c = omega arith
 
 loop-again : tie.Need-loop-again Inv-loop2 μ-loop2 Inv-loop μ-loop
-loop-again c = (omega arith, c .before .loop2 .inv .1 ∙ c .before .before .before .loop .inv .1, rounds-more (c .before .before .before .loop .c) (c .before .loop2 .k) _ _ _ (omega arith) (c .before .before .before .loop .inv .2) (c .before .loop2 .inv .2))
+loop-again c = (omega arith, c .before .loop2 .inv .1 ∙ c .before .before .before .loop .inv .1, rounds-more _ _ (c .before .loop2 .k) _ _ _ (omega arith) (omega arith) (c .before .before .before .loop .inv .2) (c .before .loop2 .inv .2))
 
 same-length : tie.Need-same-length Inv-loop2 μ-loop2 Inv-loop μ-loop
 same-length c = c .before .loop .inv .1
 
 returns : tie.Need-returns Inv-loop2 μ-loop2 Inv-loop μ-loop
-returns c = rounds-done (c .before .loop .c) _ _ _ (omega arith) (c .before .loop .inv .2)
+returns c = rounds-done _ _ _ _ (omega arith) (c .before .loop .inv .2)
 
 pub rounds-spec : {M : Type 1} → statement M
 rounds-spec =
@@ -118,7 +118,7 @@ rounds-spec =
     add-k
     loop2-less
     loop2-again
-    add-c
+    sub-left
     loop-less
     loop-again
     same-length

@@ -3,7 +3,8 @@ use Prim.Native.Nat.{ℕ, _≤_, _-_}
 use mathlib.Core.Bool.{Bool}
 use mathlib.Core.Path.{_≡_}
 use native.Mathlib.Omega.{arith}
-use Rattle.supervisor.specs.Table.{allBelow, slotAt, slotSound}
+use Rattle.supervisor.specs.Table.{slotAt, slotSound}
+use Rattle.common.specs.Tests.{allBelow}
 use Rattle.supervisor.specs.declared.table.Table.{Table}
 use Rattle.supervisor.proofs.All.{all-none, all-more, all-done}
 use borrow.Author.Needs.{needs}

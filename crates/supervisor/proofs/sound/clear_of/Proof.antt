@@ -4,7 +4,8 @@ use mathlib.Core.Bool.{Bool, _||_}
 use mathlib.Core.Path.{_≡_, ap}
 use native.Mathlib.Omega.{arith}
 use lib.Dec.{eqb}
-use Rattle.supervisor.specs.Table.{allBelow, slotAt, apart, clearOf}
+use Rattle.supervisor.specs.Table.{slotAt, apart, clearOf}
+use Rattle.common.specs.Tests.{allBelow}
 use Rattle.supervisor.specs.declared.table.Partition.{Partition}
 use Rattle.supervisor.specs.declared.table.Table.{Table}
 use Rattle.supervisor.proofs.All.{all-none, all-more, all-done}

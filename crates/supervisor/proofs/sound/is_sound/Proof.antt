@@ -1,9 +1,9 @@
 -- `supervisor::sound::is_sound`: that there are eight slots is known of the array.
 use mathlib.Core.Path.{_≡_, sym, _∙_}
 use lib.ListN.{length, length-map}
-use Rattle.pattern.specs.Values.{within}
+use Rattle.common.specs.Tests.{within, allAfter}
 use Rattle.supervisor.specs.Table.{sound}
-use Rattle.supervisor.proofs.All.{and-true}
+use Rattle.common.specs.TestLaws.{and-true}
 use borrow.Author.Needs.{needs}
 use Rattle.supervisor.proofs.sound.is_sound.Statement.{statement}
 use Rattle.supervisor.proofs.sound.is_sound.Tie as tie
@@ -21,7 +21,7 @@ all-apart-requires : tie.Need-all-apart-requires
 all-apart-requires c κs = search needs
 
 returns : tie.Need-returns
-unfolding sound
+unfolding sound allAfter
 returns c =
     let start = c .before .before .before .before .args in
     let e : length (start .table .slots) ≡ 8 = sym (length-map (start .table .slots) _) ∙ c .before .before .before .before .good .0 .1 .1 .1 .0 .1 .0 .1 in

@@ -7,7 +7,8 @@ use native.Mathlib.Omega.{arith}
 use lib.Dec.{eqb}
 use lib.ListN.{length, getD}
 use denote.Ref.{now}
-use Rattle.supervisor.specs.Table.{allBelow, allZero}
+use Rattle.supervisor.specs.Table.{allZero}
+use Rattle.common.specs.Tests.{allBelow}
 use Rattle.supervisor.proofs.All.{all-none, all-more, all-done}
 use Rattle.supervisor.proofs.sound.zero_bytes.Statement.{statement}
 use Rattle.supervisor.proofs.sound.zero_bytes.Tie as tie

@@ -1,4 +1,5 @@
 -- `supervisor::sound::zero_state`: in the shape of its definition.
+use Rattle.common.specs.Tests.{allAfter}
 use Rattle.supervisor.specs.Table.{zeroState}
 use borrow.Author.Needs.{needs}
 use Rattle.supervisor.proofs.sound.zero_state.Statement.{statement}
@@ -17,9 +18,8 @@ zero-words-requires : tie.Need-zero-words-requires
 zero-words-requires c κs = search needs
 
 returns : tie.Need-returns
-unfolding zeroState
-returns c =
-    rw (c .before .before .before .before .before .before .before .zero-words .ensures, c .before .before .before .before .before .before .before .before .before .zero-bytes .ensures)
+unfolding zeroState allAfter
+returns c = rw (c .before .before .before .before .before .before .before .zero-words .ensures, c .before .before .before .before .before .before .before .before .before .zero-bytes .ensures)
 
 pub zero-state-spec : {M : Type 1} → statement M
 zero-state-spec =

@@ -1,12 +1,16 @@
 -- `supervisor::status::resumed`: by its two branches.
 use borrow.Author.Tests.{eq-eqb, ne-eqb}
+use Rattle.common.specs.Choice.{if_then_else_}
+use Rattle.supervisor.specs.Operations.{resumed}
 use Rattle.supervisor.proofs.status.resumed.Statement.{statement}
 use Rattle.supervisor.proofs.status.resumed.Tie as tie
 
 returns : tie.Need-returns
+unfolding resumed if_then_else_
 returns c = rw (eq-eqb _ _ (c .if1 .taken))
 
 returns-2 : tie.Need-returns-2
+unfolding resumed if_then_else_
 returns-2 c = rw (ne-eqb _ _ (c .if1 .left))
 
 pub resumed-spec : {M : Type 1} → statement M

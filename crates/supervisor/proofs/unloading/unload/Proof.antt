@@ -1,11 +1,11 @@
--- `supervisor::unloading::unload`: an accepted call names one of the eight slots (Accepted.antt).
+-- `supervisor::unloading::unload`: an accepted call names one of the eight slots (Conditions.antt).
 use native.Mathlib.Omega.{arith}
-use Rattle.supervisor.specs.Events.{refusal, effect}
-use Rattle.supervisor.specs.Events as events
-use Rattle.supervisor.specs.Operations.{afterUnload}
+use Rattle.supervisor.specs.Calls.{changeConditions, refusal, effect, patchOf}
+use Rattle.supervisor.specs.Calls as calls
+use Rattle.supervisor.specs.Conditions.{held-ready}
+use Rattle.supervisor.specs.Operations.{patched, unloadPatch}
 use Rattle.supervisor.specs.Table.{slotAt, withSlot}
-use Rattle.supervisor.proofs.Accepted.{unload-accepted}
-use Rattle.supervisor.proofs.Outcomes.{refused, accepted}
+use Rattle.supervisor.specs.Outcomes.{refused, accepted}
 use borrow.Author.Needs.{needs}
 use Rattle.supervisor.proofs.unloading.unload.Statement.{statement}
 use Rattle.supervisor.proofs.unloading.unload.Tie as tie
@@ -17,16 +17,16 @@ same-length : tie.Need-same-length
 same-length c = search needs
 
 returns : tie.Need-returns
-unfolding refusal
-returns c = refused (events.unload (c .before .before .before .before .args .slot)) _ (c .before .slot-refusal .ensures) (c .if1 .taken)
+unfolding refusal changeConditions
+returns c = refused (calls.change (c .before .before .before .before .args .slot) calls.unload) _ (c .before .slot-refusal .ensures) (c .if1 .taken)
 
 mul-s : tie.Need-mul-s
 mul-s c =
-    omega (arith, unload-accepted _ (c .before .before .before .before .args .slot) (c .before .slot-refusal .ensures) (c .if1 .left) .held .slot)
+    omega (arith, held-ready _ (c .before .before .before .before .args .slot) (c .before .slot-refusal .ensures) (c .if1 .left) .held .slot)
 
 element-copy-out-s : tie.Need-element-copy-out-s
 element-copy-out-s c =
-    unload-accepted _ (c .before .before .before .before .args .slot) (c .before .slot-refusal .ensures) (c .if1 .left) .held .slot
+    held-ready _ (c .before .before .before .before .args .slot) (c .before .slot-refusal .ensures) (c .if1 .left) .held .slot
 
 cast-fill : tie.Need-cast-fill
 cast-fill c = search needs
@@ -42,19 +42,19 @@ empty-requires c κs = search needs
 
 mul-empty : tie.Need-mul-empty
 mul-empty c =
-    omega (arith, unload-accepted _ (c .before .before .before .before .before .before .before .before .before .before .before .before .before .args .slot) (c .before .before .before .before .before .before .before .before .before .before .slot-refusal .ensures) (c .before .before .before .before .before .before .before .before .before .if1 .left) .held .slot)
+    omega (arith, held-ready _ (c .before .before .before .before .before .before .before .before .before .before .before .before .before .before .before .args .slot) (c .before .before .before .before .before .before .before .before .before .before .before .before .slot-refusal .ensures) (c .before .before .before .before .before .before .before .before .before .before .before .if1 .left) .held .slot)
 
 element-set-from-empty : tie.Need-element-set-from-empty
 element-set-from-empty c =
-    unload-accepted _ (c .before .before .before .before .before .before .before .before .before .before .before .before .before .args .slot) (c .before .before .before .before .before .before .before .before .before .before .slot-refusal .ensures) (c .before .before .before .before .before .before .before .before .before .if1 .left) .held .slot
+    held-ready _ (c .before .before .before .before .before .before .before .before .before .before .before .before .before .before .before .args .slot) (c .before .before .before .before .before .before .before .before .before .before .before .before .slot-refusal .ensures) (c .before .before .before .before .before .before .before .before .before .before .before .if1 .left) .held .slot
 
 same-length-2 : tie.Need-same-length-2
 same-length-2 c = search needs
 
 returns-2 : tie.Need-returns-2
-unfolding refusal effect afterUnload withSlot slotAt
+unfolding refusal changeConditions effect patchOf patched unloadPatch withSlot slotAt
 returns-2 c =
-    accepted (events.unload (c .before .before .before .before .before .before .before .before .before .before .before .before .before .args .slot)) _ _ _ (c .before .before .before .before .before .before .before .before .before .before .slot-refusal .ensures) (c .before .before .before .before .before .before .before .before .before .if1 .left) (rw (c .empty .ensures, c .before .before .before .fill .ensures, c .before .before .before .before .bytes .ensures))
+    accepted (calls.change (c .before .before .before .before .before .before .before .before .before .before .before .before .before .before .before .args .slot) calls.unload) _ _ _ (c .before .before .before .before .before .before .before .before .before .before .before .before .slot-refusal .ensures) (c .before .before .before .before .before .before .before .before .before .before .before .if1 .left) (rw (c .empty .ensures, c .before .before .before .fill .ensures, c .before .before .before .before .bytes .ensures))
 
 pub unload-spec : {M : Type 1} → statement M
 unload-spec =

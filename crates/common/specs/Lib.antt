@@ -1,0 +1,11 @@
+-- Definitions that must be believed.
+pub mod Choice
+pub mod Tests
+pub mod Refusals
+pub mod Repetition
+pub mod Layouts
+-- Laws that the checker has shown.
+pub mod TestLaws
+pub mod RefusalLaws
+pub mod RepetitionLaws
+pub mod LayoutLaws

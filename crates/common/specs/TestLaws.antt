@@ -1,0 +1,110 @@
+-- Laws that the checker has shown: what tests say as facts, and back.
+use mathlib.Core.Bool.{Bool, true, false, _&&_, _||_, not, false≢true}
+use mathlib.Core.List.{List, [], _∷_}
+use mathlib.Core.Logic.{_⊎_, inl, inr}
+use mathlib.Core.Path.{_≡_, refl, sym, ap, _∙_}
+use Prim.Native.Nat.{ℕ, zero, suc, _≤_, _<_}
+use native.Mathlib.Decide.{ℕ-discrete}
+use native.Mathlib.Omega.{arith}
+use borrow.Author.Tests.{leb-true, le-leb, eqb-true, eq-eqb, ne-eqb}
+use lib.Dec.{eqb, leb}
+use Rattle.common.specs.Tests.{within, allAfter, all, allBelow}
+
+-- ---- two tests
+
+pub both : (a b : Bool) → (a && b) ≡ true → (a ≡ true) × (b ≡ true)
+both true b e = (refl, e)
+both false b e = absurd (false≢true e)
+
+pub and-test : (a b : Bool) → a ≡ true → b ≡ true → (a && b) ≡ true
+and-test true b e f = f
+and-test false b e f = e
+
+pub and-true : (b : Bool) → (b && true) ≡ b
+and-true true = refl
+and-true false = refl
+
+pub or-fact : (a b : Bool) → (a || b) ≡ true → (a ≡ true) ⊎ (b ≡ true)
+or-fact true b e = inl refl
+or-fact false b e = inr e
+
+pub or-left : (a b : Bool) → a ≡ true → (a || b) ≡ true
+or-left true b e = refl
+or-left false b e = absurd (false≢true e)
+
+pub or-right : (a b : Bool) → b ≡ true → (a || b) ≡ true
+or-right true b e = refl
+or-right false b e = e
+
+pub or-false : (a b : Bool) → (a || b) ≡ false → b ≡ false
+or-false true b e = absurd (false≢true (sym e))
+or-false false b e = e
+
+-- a test that is asked only where one number is another
+pub when-fact : (n m a b : ℕ) → (not (eqb n m) || eqb a b) ≡ true → n ≡ m → a ≡ b
+when-fact n m a b h e = go (or-fact (not (eqb n m)) (eqb a b) h)
+  where
+    go : (not (eqb n m) ≡ true) ⊎ (eqb a b ≡ true) → a ≡ b
+    go (inl u) = absurd (false≢true (sym (ap not (eq-eqb n m e)) ∙ u))
+    go (inr u) = eqb-true a b u
+
+pub when-test : (n m a b : ℕ) → (n ≡ m → a ≡ b) → (not (eqb n m) || eqb a b) ≡ true
+when-test n m a b h = go (ℕ-discrete n m)
+  where
+    go : Dec (n ≡ m) → (not (eqb n m) || eqb a b) ≡ true
+    go (yes e) = or-right (not (eqb n m)) (eqb a b) (eq-eqb a b (h e))
+    go (no e) = or-left (not (eqb n m)) (eqb a b) (ap not (ne-eqb n m e))
+
+-- ---- a range
+
+pub record Within (n most : ℕ) : Type 0 where
+  pub some : 1 ≤ n
+  pub fits : n ≤ most
+
+pub within-fact : (n most : ℕ) → within n most ≡ true → Within n most
+within-fact n most h = let p = both (leb 1 n) (leb n most) h in record { some = leb-true 1 n (p .0); fits = leb-true n most (p .1) }
+
+pub within-test : (n most : ℕ) → Within n most → within n most ≡ true
+within-test n most w = and-test (leb 1 n) (leb n most) (le-leb 1 n (w .some)) (le-leb n most (w .fits))
+
+-- ---- a list of tests
+
+-- each of them holds
+abbrev pub Holds : List Bool → Type 0
+Holds [] = Unit {0}
+Holds (b ∷ bs) = (b ≡ true) × Holds bs
+
+after-holds : (held : Bool) (bs : List Bool) → allAfter held bs ≡ true → (held ≡ true) × Holds bs
+unfolding allAfter
+after-holds held [] h = (h, tt)
+after-holds held (b ∷ bs) h =
+    let r = after-holds (held && b) bs h in
+    let p = both held b (r .0) in
+    (p .0, (p .1, r .1))
+
+holds-after : (held : Bool) (bs : List Bool) → held ≡ true → Holds bs → allAfter held bs ≡ true
+unfolding allAfter
+holds-after held [] e h = e
+holds-after held (b ∷ bs) e h = holds-after (held && b) bs (and-test held b e (h .0)) (h .1)
+
+pub all-holds : (bs : List Bool) → all bs ≡ true → Holds bs
+all-holds bs h = after-holds true bs h .1
+
+pub holds-all : (bs : List Bool) → Holds bs → all bs ≡ true
+holds-all bs h = holds-after true bs refl h
+
+-- ---- every number below another
+
+pub below-fact : (n : ℕ) (test : ℕ → Bool) → allBelow n test ≡ true → (i : ℕ) → i < n → test i ≡ true
+unfolding allBelow
+below-fact zero test h i q = absurd (omega arith)
+below-fact (suc n) test h i q = go (ℕ-discrete i n) (below-fact n test (both (allBelow n test) (test n) h .0) i)
+  where
+    go : Dec (i ≡ n) → (i < n → test i ≡ true) → test i ≡ true
+    go (yes e) ih = ap test e ∙ both (allBelow n test) (test n) h .1
+    go (no e) ih = ih (omega arith)
+
+pub below-test : (n : ℕ) (test : ℕ → Bool) → ((i : ℕ) → i < n → test i ≡ true) → allBelow n test ≡ true
+unfolding allBelow
+below-test zero test h = refl
+below-test (suc n) test h = and-test (allBelow n test) (test n) (below-test n test (λ i q. h i (omega arith))) (h n (omega arith))

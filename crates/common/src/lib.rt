@@ -1,0 +1,9 @@
+// What every layer needs: addresses and places, how a partition is parted, and whether a number is in its range.
+mod layout;
+mod places;
+mod ranges;
+
+pub use layout::Layout;
+pub use places::Address;
+pub use places::Location;
+pub use ranges::is_within;

@@ -1,0 +1,115 @@
+-- Definitions that must be believed: what is called, what refuses it, and what it leaves. A call is a change at one slot, a run, or a
+-- query; a change is one patch of that slot, and a query changes nothing.
+use mathlib.Core.Bool.{Bool}
+use mathlib.Core.List.{List, _++_}
+use Prim.Native.Nat.{ℕ}
+use lib.Dec.{eqb}
+use lib.ListN.{length, drop, replicate}
+use Rattle.common.specs.Choice.{if_then_else_}
+use Rattle.common.specs.Refusals.{Condition, refusalBy}
+use Rattle.common.specs.declared.places.Location.{Location}
+use Rattle.pattern.specs.Reader.{valuesOf}
+use Rattle.supervisor.specs.Operations.{System, system, slotOf, tableConditions, memoryConditions, emptyConditions, loadedConditions, fileConditions, placeConditions, feedConditions, drainConditions, partitionFor, Patch, patched, loadPatch, unloadPatch, feedPatch, drainPatch, writtenBytes, afterRun, sensedPsu}
+use Rattle.supervisor.specs.Table.{slotAt}
+use Rattle.supervisor.specs.declared.reported.Report.{Report}
+use Rattle.supervisor.specs.declared.table.Slot.{Slot}
+use Rattle.supervisor.specs.declared.table.Table.{Table}
+
+-- what is done to one slot; `drain` is given the length of its buffer
+pub data Change : Type 0 where
+  load : (location : Location) (file : List ℕ) → Change
+  unload : Change
+  feed : (bytes : List ℕ) → Change
+  drain : (room : ℕ) → Change
+
+-- what is asked of a table
+pub data Query : Type 0 where
+  report : (slot : ℕ) → Query
+
+-- a call that takes the table
+pub data Call : Type 0 where
+  change : (slot : ℕ) → Change → Call
+  run : (rounds : ℕ) → Call
+  query : Query → Call
+
+-- ---- what refuses a call: the table's conditions, the slot's, its own
+
+unfoldable pub changeConditions : Change → System → ℕ → List Condition
+changeConditions (load location file) x k =
+    memoryConditions x ++ emptyConditions (x .table) k ++ (fileConditions file ++ placeConditions (x .table) k (partitionFor location (valuesOf file)))
+changeConditions unload x k = memoryConditions x ++ loadedConditions (x .table) k
+changeConditions (feed bytes) x k = memoryConditions x ++ loadedConditions (x .table) k ++ feedConditions (slotOf x k) bytes
+changeConditions (drain room) x k = memoryConditions x ++ loadedConditions (x .table) k ++ drainConditions (slotOf x k) room
+
+unfoldable pub queryConditions : Query → Table → List Condition
+queryConditions (report k) t = tableConditions t ++ loadedConditions t k
+
+-- the number that refuses a call, 0 if it is accepted
+unfoldable pub refusal : Call → System → ℕ
+refusal (change k c) x = refusalBy (changeConditions c x k)
+refusal (run n) x = refusalBy (memoryConditions x)
+refusal (query q) x = refusalBy (queryConditions q (x .table))
+
+abbrev pub accepted : Call → System → Bool
+accepted c x = eqb (refusal c x) 0
+
+-- ---- what a call leaves
+
+-- an accepted change at a slot, as a patch of it
+unfoldable pub patchOf : Change → Slot → Patch
+patchOf (load location file) s = loadPatch location file
+patchOf unload s = unloadPatch s
+patchOf (feed bytes) s = feedPatch bytes s
+patchOf (drain room) s = drainPatch s
+
+-- table and memory after an accepted call
+unfoldable pub effect : Call → System → System
+effect (change k c) x = patched x k (patchOf c (slotOf x k))
+effect (run n) x = afterRun n x
+effect (query q) x = x
+
+-- a refused call hands back the table that it was given, and changes no byte
+unfoldable pub afterCall : Call → System → System
+afterCall c x = if accepted c x then effect c x else x
+
+-- what a call answers and leaves, as one value: every contract of an operation is an equation of this
+pub record Outcome : Type 0 where
+  pub number : ℕ
+  pub after : System
+
+abbrev pub outcome : ℕ → Table → List ℕ → Outcome
+outcome n t memory = record { number = n; after = system t memory }
+
+unfoldable pub outcomeOf : Call → System → Outcome
+outcomeOf c x = record { number = refusal c x; after = afterCall c x }
+
+-- ---- what a call hands over beside
+
+-- how many bytes are drained, and the buffer afterwards; a refusal drains none and leaves it
+unfoldable pub drainedCount : System → ℕ → ℕ → ℕ
+drainedCount x k room = if accepted (change k (drain room)) x then slotOf x k .state .written else 0
+
+unfoldable pub drainedBuffer : System → ℕ → List ℕ → List ℕ
+drainedBuffer x k buffer =
+    if accepted (change k (drain (length buffer))) x
+    then writtenBytes (slotOf x k) (x .memory) ++ drop (slotOf x k .state .written) buffer
+    else buffer
+
+-- the number that refuses a query, which takes no memory
+abbrev pub queryRefusal : Query → Table → ℕ
+queryRefusal q t = refusalBy (queryConditions q t)
+
+-- status, counter, registers, PSU with Sense, PSL; a refused one is all zero
+unfoldable pub reportOf : Table → ℕ → Report
+reportOf t k =
+    if eqb (queryRefusal (report k) t) 0
+    then
+    record {
+      refusal = 0;
+      status = slotAt t k .state .status;
+      counter = slotAt t k .state .cpu .counter;
+      registers = slotAt t k .state .cpu .registers;
+      psu = sensedPsu (slotAt t k .state);
+      psl = slotAt t k .state .cpu .psl;
+    }
+    else record { refusal = queryRefusal (report k) t; status = 0; counter = 0; registers = replicate 7 0; psu = 0; psl = 0 }
