@@ -4,6 +4,7 @@
 lint:
 	tools/proofkit current
 	tools/unused
+	tools/names
 	tools/edits
 	rt fmt --check
 

@@ -15,7 +15,7 @@ static int usage(void)
     return 2;
 }
 
-static int list(FILE *f)
+static int print_listing(FILE *f)
 {
     /* one byte more than the longest file, so that a longer one is seen as such */
     static uint8_t file[PF_FILE_MOST + 1];
@@ -28,23 +28,23 @@ static int list(FILE *f)
     return fwrite(text, 1, listing(file, length, text), stdout) == 0;
 }
 
-static int list_file(const char *path)
+static int print_listing_of(const char *path)
 {
     FILE *f = fopen(path, "rb");
     if (!f) {
         perror(path);
         return 2;
     }
-    int failed = list(f);
+    int failed = print_listing(f);
     fclose(f);
     return failed;
 }
 
 int main(int argc, char **argv)
 {
-    if (argc == 1) return list(stdin);
+    if (argc == 1) return print_listing(stdin);
     if (argc == 3 && !strcmp(argv[1], "--vectors")) return vectors(argv[2]);
     if (argc == 3 && !strcmp(argv[1], "--speed")) return speed(argv[2]);
-    if (argc == 2 && argv[1][0] != '-') return list_file(argv[1]);
+    if (argc == 2 && argv[1][0] != '-') return print_listing_of(argv[1]);
     return usage();
 }

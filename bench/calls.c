@@ -15,18 +15,18 @@ const char *const call_names[KINDS] = {
 #define BIT(n) (1u << (n))
 
 enum {
-    FLOOR = BIT(0) | BIT(PF_NOT_SOUND) | BIT(PF_OTHER_LENGTH),
-    SLOT = FLOOR | BIT(PF_NO_SLOT),
+    SYSTEM = BIT(0) | BIT(PF_NOT_SOUND) | BIT(PF_OTHER_LENGTH),
+    SLOT = SYSTEM | BIT(PF_NO_SLOT),
     READER = BIT(0) | BIT(PF_FRAME) | BIT(PF_FORM) | BIT(PF_BOARD) | BIT(PF_VALUES) | BIT(PF_CODE) | BIT(PF_INPUT)
 };
 
 const uint32_t call_refusals[KINDS] = {
-    [CALL_NEW] = FLOOR,
+    [CALL_NEW] = SYSTEM,
     [CALL_LOAD] = SLOT | BIT(PF_TAKEN) | READER | BIT(PF_PAST_END) | BIT(PF_MEETS),
     [CALL_UNLOAD] = SLOT | BIT(PF_EMPTY),
     [CALL_FEED] = SLOT | BIT(PF_EMPTY) | BIT(PF_UNREAD) | BIT(PF_NO_INPUT),
     [CALL_DRAIN] = SLOT | BIT(PF_EMPTY) | BIT(PF_SHORT),
-    [CALL_RUN] = FLOOR,
+    [CALL_RUN] = SYSTEM,
     [CALL_REPORT] = BIT(0) | BIT(PF_NOT_SOUND) | BIT(PF_NO_SLOT) | BIT(PF_EMPTY) | BIT(PF_SHORT),
     [CALL_READ] = READER | BIT(PF_SHORT),
     [CALL_CODE] = READER,
@@ -59,12 +59,12 @@ static pair *lend_other(call *c, const pair *p)
     return other;
 }
 
-static void lend_table(call *c, floor_pair *f) { c->table = one_in(60) ? lend_other(c, &f->table) : &f->table; }
+static void lend_table(call *c, system_pair *both) { c->table = one_in(60) ? lend_other(c, &both->table) : &both->table; }
 
-static void lend_floor(call *c, floor_pair *f)
+static void lend_system(call *c, system_pair *both)
 {
-    lend_table(c, f);
-    c->memory = one_in(50) ? lend_other(c, &f->memory) : &f->memory;
+    lend_table(c, both);
+    c->memory = one_in(50) ? lend_other(c, &both->memory) : &both->memory;
 }
 
 static pair *lend_file(call *c, size_t memory)
@@ -93,47 +93,47 @@ static size_t room_for(size_t needed)
 
 /* ---- slots */
 
-typedef int (*slot_test)(const ref_station *);
+typedef int (*slot_test)(const ref_slot *);
 
-static int is_empty(const ref_station *s) { return s->status == ST_EMPTY; }
-static int is_taken(const ref_station *s) { return s->status != ST_EMPTY; }
-static int is_at_end(const ref_station *s) { return s->status == ST_HALT || s->status >= ST_UNKNOWN; }
-static int wants_input(const ref_station *s) { return s->status == ST_WANTS; }
-static int has_read_all(const ref_station *s) { return is_taken(s) && s->read == s->filled; }
-static int is_full(const ref_station *s) { return s->status == ST_FULL; }
-static int has_written(const ref_station *s) { return is_taken(s) && s->written; }
+static int is_empty(const ref_slot *s) { return s->status == ST_EMPTY; }
+static int is_taken(const ref_slot *s) { return s->status != ST_EMPTY; }
+static int is_at_end(const ref_slot *s) { return s->status == ST_HALT || s->status >= ST_UNKNOWN; }
+static int wants_input(const ref_slot *s) { return s->status == ST_WANTS; }
+static int has_read_all(const ref_slot *s) { return is_taken(s) && s->read == s->filled; }
+static int is_full(const ref_slot *s) { return s->status == ST_FULL; }
+static int has_written(const ref_slot *s) { return is_taken(s) && s->written; }
 
-/* STATIONS if there is none */
-static size_t find_slot(const ref_record *r, slot_test test)
+/* SLOTS if there is none */
+static size_t find_slot(const ref_table *table, slot_test test)
 {
-    size_t first = below(STATIONS);
-    for (size_t i = 0; i < STATIONS; i++)
-        if (test(&r->s[(first + i) % STATIONS])) return (first + i) % STATIONS;
-    return STATIONS;
+    size_t first = below(SLOTS);
+    for (size_t i = 0; i < SLOTS; i++)
+        if (test(&table->slots[(first + i) % SLOTS])) return (first + i) % SLOTS;
+    return SLOTS;
 }
 
 /* Slots past the last: the next one, and numbers that a cut to fewer bits would turn into slots. */
 static size_t no_slot(void)
 {
     const size_t starts[] = { 8, 8, 16, 248, 256, 65536, (size_t)UINT32_MAX + 1, SIZE_MAX / 2 + 1, SIZE_MAX - 7 };
-    return ONE_OF(starts) + (one_in(3) ? 0 : below(STATIONS));
+    return ONE_OF(starts) + (one_in(3) ? 0 : below(SLOTS));
 }
 
-static size_t slot_for(const ref_record *r, slot_test best, slot_test good)
+static size_t slot_for(const ref_table *table, slot_test best, slot_test good)
 {
     if (one_in(30)) return no_slot();
-    if (one_in(10)) return below(STATIONS);
-    size_t k = find_slot(r, best);
-    if (k == STATIONS || one_in(6)) k = find_slot(r, good);
-    if (k == STATIONS && !one_in(4)) k = find_slot(r, is_taken);
-    return k == STATIONS ? below(STATIONS) : k;
+    if (one_in(10)) return below(SLOTS);
+    size_t k = find_slot(table, best);
+    if (k == SLOTS || one_in(6)) k = find_slot(table, good);
+    if (k == SLOTS && !one_in(4)) k = find_slot(table, is_taken);
+    return k == SLOTS ? below(SLOTS) : k;
 }
 
 /* the slot's numbers, or zeros for a slot that is none */
-static const ref_station *station(const floor_pair *f, size_t slot)
+static const ref_slot *slot_of(const system_pair *both, size_t slot)
 {
-    static const ref_station none;
-    return slot < STATIONS ? &f->record.s[slot] : &none;
+    static const ref_slot none;
+    return slot < SLOTS ? &both->reference_table.slots[slot] : &none;
 }
 
 /* ---- where a partition fits */
@@ -142,44 +142,44 @@ typedef struct {
     size_t at, length;
 } gap;
 
-static gap gap_at(const ref_record *r, size_t place)
+static gap gap_at(const ref_table *table, size_t location)
 {
-    size_t end = r->length;
-    for (size_t k = 0; k < STATIONS; k++) {
-        const ref_station *s = &r->s[k];
+    size_t end = table->memory_length;
+    for (size_t k = 0; k < SLOTS; k++) {
+        const ref_slot *s = &table->slots[k];
         if (is_empty(s)) continue;
-        if (s->bay <= place && place < partition_end(s)) return (gap){ place, 0 };
-        if (s->bay >= place && s->bay < end) end = s->bay;
+        if (s->base <= location && location < partition_end(s)) return (gap){ location, 0 };
+        if (s->base >= location && s->base < end) end = s->base;
     }
-    return (gap){ place, place < end ? end - place : 0 };
+    return (gap){ location, location < end ? end - location : 0 };
 }
 
 /* Behind a partition or at 0, with room for the least pattern; else anywhere. */
-static gap some_gap(const ref_record *r)
+static gap some_gap(const ref_table *table)
 {
-    size_t first = below(STATIONS + 1);
-    for (size_t i = 0; i <= STATIONS; i++) {
-        size_t k = (first + i) % (STATIONS + 1);
-        gap g = gap_at(r, k < STATIONS ? partition_end(&r->s[k]) : 0);
+    size_t first = below(SLOTS + 1);
+    for (size_t i = 0; i <= SLOTS; i++) {
+        size_t k = (first + i) % (SLOTS + 1);
+        gap g = gap_at(table, k < SLOTS ? partition_end(&table->slots[k]) : 0);
         if (g.length >= 3) return g;
     }
-    return (gap){ below(r->length), 3 };
+    return (gap){ below(table->memory_length), 3 };
 }
 
 /* about the memory's end, and where a sum would wrap round or a cut to fewer bits would make it fit */
-static size_t odd_location(const ref_record *r, gap g, size_t size)
+static size_t odd_location(const ref_table *table, gap g, size_t size)
 {
-    const size_t places[] = { r->length, r->length + (size_t)1, r->length - size, r->length - size + 1, SIZE_MAX,
-                              SIZE_MAX - size, SIZE_MAX - size + 1, SIZE_MAX / 2 + 1, (size_t)UINT32_MAX + 1 + g.at,
-                              65536 + g.at };
-    return ONE_OF(places);
+    const size_t end = table->memory_length;
+    const size_t locations[] = { end, end + 1, end - size, end - size + 1, SIZE_MAX, SIZE_MAX - size, SIZE_MAX - size + 1,
+                                 SIZE_MAX / 2 + 1, (size_t)UINT32_MAX + 1 + g.at, 65536 + g.at };
+    return ONE_OF(locations);
 }
 
-static size_t location_for(const ref_record *r, gap g, size_t size)
+static size_t location_for(const ref_table *table, gap g, size_t size)
 {
     switch (below(24)) {
-    case 0: case 1: return odd_location(r, g, size);
-    case 2: return below(r->length + (size_t)2);
+    case 0: case 1: return odd_location(table, g, size);
+    case 2: return below(table->memory_length + (size_t)2);
     case 3: return g.at - 1;
     case 4: return g.at + g.length - size + 1;
     case 5: case 6: return g.at + g.length - size;
@@ -191,54 +191,55 @@ static size_t location_for(const ref_record *r, gap g, size_t size)
 /* what the file's pattern needs of the memory; the least if it is refused */
 static size_t needs(const pair *file)
 {
-    ref_values v;
-    return ref_read_file(REFERENCE(file), &v) ? 3 : (size_t)v.window + v.icap + v.ocap;
+    ref_parameters p;
+    return ref_read_file(REFERENCE(file), &p) ? 3 : (size_t)p.window + p.input + p.output;
 }
 
 /* ---- calls with a table */
 
-static size_t length_for_new(const floor_pair *f)
+static size_t length_for_new(const system_pair *both)
 {
     const size_t odd[] = { 0, 1, 65535, 65536, 65537, 131072, (size_t)UINT32_MAX + 1,
-                           (size_t)UINT32_MAX + 1 + f->memory.length, SIZE_MAX / 2 + 1, SIZE_MAX, between(1, 65536) };
-    return one_in(2) ? ONE_OF(odd) : f->memory.length;
+                           (size_t)UINT32_MAX + 1 + both->memory.length, SIZE_MAX / 2 + 1, SIZE_MAX, between(1, 65536) };
+    return one_in(2) ? ONE_OF(odd) : both->memory.length;
 }
 
-/* The reference hands back a zero record with a refusal; to a host nothing is handed then. */
-static unsigned reference_new(const call *c, floor_pair *f)
+/* The reference hands back a zero table with a refusal; to a host nothing is handed then. */
+static unsigned reference_new(const call *c, system_pair *both)
 {
-    ref_record fresh;
-    int refusal = ref_fresh_record(&fresh, c->length);
-    if (!refusal) memcpy(&f->record, &fresh, sizeof fresh);
+    ref_table made;
+    int refusal = ref_new(&made, c->length);
+    if (!refusal) memcpy(&both->reference_table, &made, sizeof made);
     return (unsigned)refusal;
 }
 
-static void make_new(call *c, floor_pair *f)
+static void make_new(call *c, system_pair *both)
 {
-    lend_table(c, f);
-    c->length = length_for_new(f);
+    lend_table(c, both);
+    c->length = length_for_new(both);
     c->answer = pf_new(LENT(c->table), c->length);
-    c->refusal = whole(c) ? reference_new(c, f) : PF_NOT_SOUND;
+    c->refusal = whole(c) ? reference_new(c, both) : PF_NOT_SOUND;
 }
 
-static void make_load(call *c, floor_pair *f)
+static void make_load(call *c, system_pair *both)
 {
-    lend_floor(c, f);
-    gap g = some_gap(&f->record);
+    lend_system(c, both);
+    gap g = some_gap(&both->reference_table);
     pair *file = lend_file(c, least(g.length, 40960));
-    c->slot = slot_for(&f->record, is_empty, is_empty);
-    c->location = location_for(&f->record, g, needs(file));
+    c->slot = slot_for(&both->reference_table, is_empty, is_empty);
+    c->location = location_for(&both->reference_table, g, needs(file));
     c->answer = pf_load(LENT(c->table), LENT(c->memory), c->slot, c->location, LENT(file));
-    c->refusal = whole(c) ? (unsigned)ref_mount(&f->record, REFERENCE(c->memory), c->slot, REFERENCE(file), c->location)
+    c->refusal = whole(c) ? (unsigned)ref_load(&both->reference_table, REFERENCE(c->memory), c->slot, REFERENCE(file),
+                                               c->location)
                           : PF_NOT_SOUND;
 }
 
-static void make_unload(call *c, floor_pair *f)
+static void make_unload(call *c, system_pair *both)
 {
-    lend_floor(c, f);
-    c->slot = slot_for(&f->record, is_at_end, is_taken);
+    lend_system(c, both);
+    c->slot = slot_for(&both->reference_table, is_at_end, is_taken);
     c->answer = pf_unload(LENT(c->table), LENT(c->memory), c->slot);
-    c->refusal = whole(c) ? (unsigned)ref_lift(&f->record, REFERENCE(c->memory), c->slot) : PF_NOT_SOUND;
+    c->refusal = whole(c) ? (unsigned)ref_unload(&both->reference_table, REFERENCE(c->memory), c->slot) : PF_NOT_SOUND;
 }
 
 static size_t length_to_feed(size_t capacity)
@@ -251,35 +252,36 @@ static size_t length_to_feed(size_t capacity)
     }
 }
 
-static void make_feed(call *c, floor_pair *f)
+static void make_feed(call *c, system_pair *both)
 {
-    lend_floor(c, f);
-    c->slot = slot_for(&f->record, wants_input, has_read_all);
-    pair *input = lend(c, "input", length_to_feed(station(f, c->slot)->icap));
+    lend_system(c, both);
+    c->slot = slot_for(&both->reference_table, wants_input, has_read_all);
+    pair *input = lend(c, "input", length_to_feed(slot_of(both, c->slot)->input));
     c->answer = pf_feed(LENT(c->table), LENT(c->memory), c->slot, LENT(input));
-    c->refusal = whole(c) ? (unsigned)ref_feed(&f->record, REFERENCE(c->memory), c->slot, REFERENCE(input))
+    c->refusal = whole(c) ? (unsigned)ref_feed(&both->reference_table, REFERENCE(c->memory), c->slot, REFERENCE(input))
                           : PF_NOT_SOUND;
 }
 
-static void make_drain(call *c, floor_pair *f)
+static void make_drain(call *c, system_pair *both)
 {
-    lend_floor(c, f);
-    c->slot = slot_for(&f->record, is_full, has_written);
-    const ref_station *s = station(f, c->slot);
-    pair *buffer = lend(c, "buffer", room_for(one_in(4) ? s->ocap : s->written));
+    lend_system(c, both);
+    c->slot = slot_for(&both->reference_table, is_full, has_written);
+    const ref_slot *s = slot_of(both, c->slot);
+    pair *buffer = lend(c, "buffer", room_for(one_in(4) ? s->output : s->written));
     size_t count = 0;
     c->answer = pf_drain(LENT(c->table), LENT(c->memory), c->slot, LENT(buffer));
-    c->refusal = whole(c) ? (unsigned)ref_collect(&f->record, REFERENCE(c->memory), c->slot, REFERENCE(buffer), &count)
+    c->refusal = whole(c) ? (unsigned)ref_drain(&both->reference_table, REFERENCE(c->memory), c->slot, REFERENCE(buffer),
+                                                &count)
                           : PF_NOT_SOUND;
     c->expected = (uint32_t)count;
 }
 
 /* None, one, a few, or as many as make some thousand steps, seldom hundreds of thousands. */
-static uint16_t some_rounds(const ref_record *r)
+static uint16_t some_rounds(const ref_table *table)
 {
     size_t quanta = 1;
-    for (size_t k = 0; k < STATIONS; k++)
-        if (r->s[k].status == ST_RUN) quanta += r->s[k].stint;
+    for (size_t k = 0; k < SLOTS; k++)
+        if (table->slots[k].status == ST_RUN) quanta += table->slots[k].quantum;
     switch (below(16)) {
     case 0: return 0;
     case 1: case 2: case 3: return 1;
@@ -290,33 +292,33 @@ static uint16_t some_rounds(const ref_record *r)
 
 /* A slot that runs after a call ran in all of it, because no round starts a stopped slot: it took rounds times its
  * quantum. What slots that stopped took before is left out, so that the number is a least one. */
-static uint64_t steps_of(const ref_record *r, uint16_t rounds)
+static uint64_t steps_of(const ref_table *table, uint16_t rounds)
 {
     uint64_t steps = 0;
-    for (size_t k = 0; k < STATIONS; k++)
-        if (r->s[k].status == ST_RUN) steps += (uint64_t)rounds * r->s[k].stint;
+    for (size_t k = 0; k < SLOTS; k++)
+        if (table->slots[k].status == ST_RUN) steps += (uint64_t)rounds * table->slots[k].quantum;
     return steps;
 }
 
-static void make_run(call *c, floor_pair *f)
+static void make_run(call *c, system_pair *both)
 {
-    lend_floor(c, f);
-    c->rounds = some_rounds(&f->record);
+    lend_system(c, both);
+    c->rounds = some_rounds(&both->reference_table);
     c->answer = pf_run(LENT(c->table), LENT(c->memory), c->rounds);
-    c->refusal = whole(c) ? (unsigned)ref_pass(&f->record, REFERENCE(c->memory), c->rounds) : PF_NOT_SOUND;
-    if (!c->refusal) c->steps = steps_of(&f->record, c->rounds);
+    c->refusal = whole(c) ? (unsigned)ref_run(&both->reference_table, REFERENCE(c->memory), c->rounds) : PF_NOT_SOUND;
+    if (!c->refusal) c->steps = steps_of(&both->reference_table, c->rounds);
 }
 
-static void make_report(call *c, floor_pair *f)
+static void make_report(call *c, system_pair *both)
 {
-    lend_table(c, f);
-    c->slot = slot_for(&f->record, is_taken, is_taken);
+    lend_table(c, both);
+    c->slot = slot_for(&both->reference_table, is_taken, is_taken);
     pair *report = lend(c, "report", room_for(PF_REPORT_BYTES));
-    ref_report r;
+    ref_reported reported;
     c->answer = pf_report(LENT(c->table), c->slot, LENT(report));
-    c->refusal = whole(c) ? (unsigned)ref_report_station(&f->record, c->slot, &r) : PF_NOT_SOUND;
+    c->refusal = whole(c) ? (unsigned)ref_report(&both->reference_table, c->slot, &reported) : PF_NOT_SOUND;
     if (!c->refusal && report->length < PF_REPORT_BYTES) c->refusal = PF_SHORT;
-    if (!c->refusal) encode_report(&r, report->reference);
+    if (!c->refusal) encode_report(&reported, report->reference);
 }
 
 /* ---- calls with a file */
@@ -325,60 +327,60 @@ static size_t some_memory(void) { return one_in(30) ? 40960 : between(3, 600); }
 
 static void make_read(call *c)
 {
-    pair *file = lend_file(c, some_memory()), *values = lend(c, "values", room_for(PF_VALUES_BYTES));
-    ref_values v;
-    c->answer = pf_read(LENT(file), LENT(values));
-    c->refusal = (unsigned)ref_read_file(REFERENCE(file), &v);
-    if (!c->refusal && values->length < PF_VALUES_BYTES) c->refusal = PF_SHORT;
-    if (!c->refusal) encode_values(&v, values->reference);
+    pair *file = lend_file(c, some_memory()), *parameters = lend(c, "parameters", room_for(PF_VALUES_BYTES));
+    ref_parameters p;
+    c->answer = pf_read(LENT(file), LENT(parameters));
+    c->refusal = (unsigned)ref_read_file(REFERENCE(file), &p);
+    if (!c->refusal && parameters->length < PF_VALUES_BYTES) c->refusal = PF_SHORT;
+    if (!c->refusal) encode_parameters(&p, parameters->reference);
 }
 
 /* pf_code and pf_input: the answer is a stretch, which the reference leaves at 0 in a file that it refuses */
 static void make_stretch(call *c)
 {
     pair *file = lend_file(c, some_memory());
-    ref_values v;
-    c->refusal = (unsigned)ref_read_file(REFERENCE(file), &v);
+    ref_parameters p;
+    c->refusal = (unsigned)ref_read_file(REFERENCE(file), &p);
     if (c->kind == CALL_CODE) {
         c->answer = pf_code(LENT(file));
-        c->expected = (uint32_t)(v.pc_at << 16 | v.pc_len);
+        c->expected = (uint32_t)(p.code_at << 16 | p.code_length);
     } else {
         c->answer = pf_input(LENT(file));
-        c->expected = (uint32_t)(v.pi_at << 16 | v.pi_len);
+        c->expected = (uint32_t)(p.first_at << 16 | p.first_length);
     }
 }
 
-/* values to write, one of them sometimes at an edge or past it */
-static ref_values some_values(void)
+/* parameters to write, one of them sometimes at an edge or past it */
+static ref_parameters some_parameters(void)
 {
     static const uint16_t edges[] = { 0, 1, 4096, 4097, 32768, 32769, 65535 };
-    ref_values v;
-    memset(&v, 0, sizeof v);
-    v.window = (uint32_t)between(1, one_in(40) ? 32768 : 300);
-    v.icap = (uint16_t)between(1, one_in(20) ? 4096 : 40);
-    v.ocap = (uint16_t)between(1, 4096);
-    v.start = (uint16_t)below(v.window);
-    v.stint = (uint8_t)between(1, 255);
+    ref_parameters p;
+    memset(&p, 0, sizeof p);
+    p.window = (uint32_t)between(1, one_in(40) ? 32768 : 300);
+    p.input = (uint16_t)between(1, one_in(20) ? 4096 : 40);
+    p.output = (uint16_t)between(1, 4096);
+    p.start = (uint16_t)below(p.window);
+    p.quantum = (uint8_t)between(1, 255);
     switch (below(40)) {
-    case 0: v.window = ONE_OF(edges); break;
-    case 1: v.icap = ONE_OF(edges); break;
-    case 2: v.ocap = ONE_OF(edges); break;
-    case 3: v.start = ONE_OF(edges); break;
-    case 4: v.start = (uint16_t)(v.window - below(2)); break;
-    case 5: v.stint = 0; break;
+    case 0: p.window = ONE_OF(edges); break;
+    case 1: p.input = ONE_OF(edges); break;
+    case 2: p.output = ONE_OF(edges); break;
+    case 3: p.start = ONE_OF(edges); break;
+    case 4: p.start = (uint16_t)(p.window - below(2)); break;
+    case 5: p.quantum = 0; break;
     default: break;
     }
-    return v;
+    return p;
 }
 
-static pair *lend_values(call *c, const ref_values *v)
+static pair *lend_parameters(call *c, const ref_parameters *p)
 {
-    pair *p = lend(c, "values", one_in(60) ? other_length(PF_VALUES_BYTES) : PF_VALUES_BYTES);
+    pair *parameters = lend(c, "parameters", one_in(60) ? other_length(PF_VALUES_BYTES) : PF_VALUES_BYTES);
     uint8_t bytes[PF_VALUES_BYTES];
-    encode_values(v, bytes);
-    memcpy(p->reference, bytes, least(p->length, sizeof bytes));
-    pair_same(p);
-    return p;
+    encode_parameters(p, bytes);
+    memcpy(parameters->reference, bytes, least(parameters->length, sizeof bytes));
+    pair_same(parameters);
+    return parameters;
 }
 
 /* a window, often with zeros at its end, which the file leaves out */
@@ -403,30 +405,30 @@ static size_t code_in(const pair *image)
 
 static void make_write(call *c)
 {
-    ref_values v = some_values();
-    pair *values = lend_values(c, &v), *image = lend_image(c, v.window);
-    pair *input = lend(c, "input", one_in(4) ? v.icap + below(2) : below(v.icap + 1u));
+    ref_parameters p = some_parameters();
+    pair *parameters = lend_parameters(c, &p), *image = lend_image(c, p.window);
+    pair *input = lend(c, "input", one_in(4) ? p.input + below(2) : below(p.input + 1u));
     pair *buffer = lend(c, "buffer", room_for(PF_FILE_LEAST + code_in(image) + input->length));
     size_t count = 0;
-    c->answer = pf_write(LENT(values), LENT(image), LENT(input), LENT(buffer));
-    c->refusal = values->length != PF_VALUES_BYTES ? PF_VALUES
-        : (unsigned)ref_write_file(v.window, v.icap, v.ocap, v.start, v.stint, REFERENCE(image), REFERENCE(input),
+    c->answer = pf_write(LENT(parameters), LENT(image), LENT(input), LENT(buffer));
+    c->refusal = parameters->length != PF_VALUES_BYTES ? PF_VALUES
+        : (unsigned)ref_write_file(p.window, p.input, p.output, p.start, p.quantum, REFERENCE(image), REFERENCE(input),
                                    REFERENCE(buffer), &count);
     c->expected = (uint32_t)count;
 }
 
 /* ---- any call */
 
-static void make(call *c, floor_pair *f)
+static void make(call *c, system_pair *both)
 {
     switch (c->kind) {
-    case CALL_NEW: make_new(c, f); break;
-    case CALL_LOAD: make_load(c, f); break;
-    case CALL_UNLOAD: make_unload(c, f); break;
-    case CALL_FEED: make_feed(c, f); break;
-    case CALL_DRAIN: make_drain(c, f); break;
-    case CALL_RUN: make_run(c, f); break;
-    case CALL_REPORT: make_report(c, f); break;
+    case CALL_NEW: make_new(c, both); break;
+    case CALL_LOAD: make_load(c, both); break;
+    case CALL_UNLOAD: make_unload(c, both); break;
+    case CALL_FEED: make_feed(c, both); break;
+    case CALL_DRAIN: make_drain(c, both); break;
+    case CALL_RUN: make_run(c, both); break;
+    case CALL_REPORT: make_report(c, both); break;
     case CALL_READ: make_read(c); break;
     case CALL_WRITE: make_write(c); break;
     default: make_stretch(c); break;
@@ -435,24 +437,24 @@ static void make(call *c, floor_pair *f)
 
 static int is_stretch(const call *c) { return c->kind == CALL_CODE || c->kind == CALL_INPUT; }
 
-void call_make(call *c, enum kind kind, floor_pair *f)
+void call_make(call *c, enum kind kind, system_pair *both)
 {
     memset(c, 0, sizeof *c);
     c->kind = kind;
-    pair_keep(&f->table);
-    pair_keep(&f->memory);
-    make(c, f);
+    pair_keep(&both->table);
+    pair_keep(&both->memory);
+    make(c, both);
     if (!is_stretch(c)) c->expected |= (uint32_t)c->refusal << 16;
-    encode_table(&f->record, f->table.reference);
+    encode_table(&both->reference_table, both->table.reference);
 }
 
-difference call_difference(const call *c, floor_pair *f)
+difference call_difference(const call *c, system_pair *both)
 {
     int refused = c->refusal != 0;
     if (c->answer != c->expected)
         return (difference){ "not as the reference answers", "answer", NO_PLACE, c->answer, c->expected };
-    difference d = pair_difference(&f->table, refused);
-    if (!d.what) d = pair_difference(&f->memory, refused);
+    difference d = pair_difference(&both->table, refused);
+    if (!d.what) d = pair_difference(&both->memory, refused);
     for (size_t i = 0; i < c->lents && !d.what; i++) d = pair_difference(&c->lent[i], refused);
     return d;
 }

@@ -3,13 +3,14 @@
 #define CALLS_H
 #include "pair.h"
 #include "pattern_floor.h"
-#include "reference/ref_floor.h"
+#include "reference/ref_supervisor.h"
 
-/* A floor twice: the product's table and memory as lent bytes, the reference's as its record and memory. */
+/* A system, which is a table and its memory, twice: the product's as lent bytes, the reference's as its own table and
+ * a memory. */
 typedef struct {
-    ref_record record;
-    pair table, memory;         /* of the table, the reference's bytes are its record's, as codec.c has them */
-} floor_pair;
+    ref_table reference_table;
+    pair table, memory;         /* in `table` the reference's bytes are those of its table, as codec.c has them */
+} system_pair;
 
 enum kind {
     CALL_NEW, CALL_LOAD, CALL_UNLOAD, CALL_FEED, CALL_DRAIN, CALL_RUN, CALL_REPORT,
@@ -27,7 +28,7 @@ typedef struct {
     enum kind kind;
     size_t slot, location, length;
     uint16_t rounds;
-    pair *table, *memory;       /* the floor's, or one of another length among those lent */
+    pair *table, *memory;       /* the system's, or one of another length among those lent */
     pair lent[LENT_MOST];       /* buffers for this call alone */
     size_t lents;
     uint32_t answer, expected;
@@ -35,11 +36,11 @@ typedef struct {
     uint64_t steps;             /* of slots that still run after pf_run: see calls.c */
 } call;
 
-/* Makes a call of that kind with random arguments, most of them sensible for the floor as it stands. */
-void call_make(call *c, enum kind kind, floor_pair *f);
+/* Makes a call of that kind with random arguments, most of them sensible for the system as it stands. */
+void call_make(call *c, enum kind kind, system_pair *both);
 
 /* The first byte or answer that is not as it must be. */
-difference call_difference(const call *c, floor_pair *f);
+difference call_difference(const call *c, system_pair *both);
 
 /* The call and its arguments, on one line. */
 void call_print(const call *c);

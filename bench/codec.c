@@ -17,13 +17,13 @@ static uint8_t *put_banks(uint8_t *p, const uint8_t bank[2][3])
     return p;
 }
 
-static uint8_t *put_station(uint8_t *p, const ref_station *s)
+static uint8_t *put_slot(uint8_t *p, const ref_slot *s)
 {
-    p = put32(p, s->bay);
+    p = put32(p, s->base);
     p = put16(p, s->window);
-    p = put16(p, s->icap);
-    p = put16(p, s->ocap);
-    p = put8(p, s->stint);
+    p = put16(p, s->input);
+    p = put16(p, s->output);
+    p = put8(p, s->quantum);
     p = put16(p, s->pc);
     p = put_banks(put8(p, s->r0), s->bank);
     p = put8(put8(p, s->psu), s->psl);
@@ -32,10 +32,10 @@ static uint8_t *put_station(uint8_t *p, const ref_station *s)
     return put16(put16(put16(p, s->filled), s->read), s->written);
 }
 
-void encode_table(const ref_record *record, uint8_t *bytes)
+void encode_table(const ref_table *table, uint8_t *bytes)
 {
-    bytes = put32(bytes, record->length);
-    for (int k = 0; k < STATIONS; k++) bytes = put_station(bytes, &record->s[k]);
+    bytes = put32(bytes, table->memory_length);
+    for (int k = 0; k < SLOTS; k++) bytes = put_slot(bytes, &table->slots[k]);
 }
 
 static uint8_t get8(const uint8_t **p) { return *(*p)++; }
@@ -52,13 +52,13 @@ static uint32_t get32(const uint8_t **p)
     return high << 16 | get16(p);
 }
 
-static void get_station(const uint8_t **p, ref_station *s)
+static void get_slot(const uint8_t **p, ref_slot *s)
 {
-    s->bay = get32(p);
+    s->base = get32(p);
     s->window = get16(p);
-    s->icap = get16(p);
-    s->ocap = get16(p);
-    s->stint = get8(p);
+    s->input = get16(p);
+    s->output = get16(p);
+    s->quantum = get8(p);
     s->pc = get16(p);
     s->r0 = get8(p);
     for (int b = 0; b < 2; b++)
@@ -72,23 +72,23 @@ static void get_station(const uint8_t **p, ref_station *s)
     s->written = get16(p);
 }
 
-/* The record is zeroed first, because the reference compares an empty station with its padding. */
-void decode_table(const uint8_t *bytes, ref_record *record)
+/* The table is zeroed first, because the reference compares an empty slot with its padding. */
+void decode_table(const uint8_t *bytes, ref_table *table)
 {
-    memset(record, 0, sizeof *record);
-    record->length = get32(&bytes);
-    for (int k = 0; k < STATIONS; k++) get_station(&bytes, &record->s[k]);
+    memset(table, 0, sizeof *table);
+    table->memory_length = get32(&bytes);
+    for (int k = 0; k < SLOTS; k++) get_slot(&bytes, &table->slots[k]);
 }
 
-void encode_report(const ref_report *report, uint8_t *bytes)
+void encode_report(const ref_reported *report, uint8_t *bytes)
 {
     bytes = put16(put8(bytes, report->status), report->pc);
     bytes = put_banks(put8(bytes, report->r0), report->bank);
     put8(put8(bytes, report->psu), report->psl);
 }
 
-void encode_values(const ref_values *values, uint8_t *bytes)
+void encode_parameters(const ref_parameters *parameters, uint8_t *bytes)
 {
-    bytes = put16(put16(put16(bytes, values->window), values->icap), values->ocap);
-    put8(put16(bytes, values->start), values->stint);
+    bytes = put16(put16(put16(bytes, parameters->window), parameters->input), parameters->output);
+    put8(put16(bytes, parameters->start), parameters->quantum);
 }

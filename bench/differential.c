@@ -1,4 +1,4 @@
-/* Random lists of calls on random floors, through the entry points and the reference, compared after every call.
+/* Random lists of calls on random systems, through the entry points and the reference, compared after every call.
  *
  *     differential SEED CALLS [STEPS]    at least so many calls, and then on to at least so many steps
  *
@@ -21,12 +21,12 @@ typedef struct {
 } wanted;
 
 typedef struct {
-    uint64_t lists, calls, steps, damaged, still_sound, written_outside;
+    uint64_t lists, calls, steps, damaged, still_sound, written_from_outside;
     uint64_t met[KINDS][REFUSALS];
     uint64_t statuses[8];           /* of all slots after each pf_run that was done */
 } counts;
 
-/* ---- floors */
+/* ---- systems */
 
 static size_t memory_length(void)
 {
@@ -38,71 +38,71 @@ static size_t memory_length(void)
     }
 }
 
-static void give_table(floor_pair *f)
+static void give_table(system_pair *both)
 {
-    encode_table(&f->record, f->table.reference);
-    pair_same(&f->table);
+    encode_table(&both->reference_table, both->table.reference);
+    pair_same(&both->table);
 }
 
 /* A memory of random bytes; a table of random bytes, which is most likely not sound, or a sound one. */
-static floor_pair floor_new(int sound)
+static system_pair system_pair_new(int sound)
 {
-    floor_pair f;
-    f.table = pair_new("table", PF_TABLE_BYTES);
-    f.memory = pair_new("memory", memory_length());
-    decode_table(f.table.reference, &f.record);
+    system_pair both;
+    both.table = pair_new("table", PF_TABLE_BYTES);
+    both.memory = pair_new("memory", memory_length());
+    decode_table(both.table.reference, &both.reference_table);
     if (sound) {
-        table_random(&f.record, f.memory.reference, f.memory.length);
-        pair_same(&f.memory);
-        give_table(&f);
+        table_random(&both.reference_table, both.memory.reference, both.memory.length);
+        pair_same(&both.memory);
+        give_table(&both);
     }
-    return f;
+    return both;
 }
 
-static void floor_free(floor_pair *f)
+static void system_pair_free(system_pair *both)
 {
-    pair_free(&f->table);
-    pair_free(&f->memory);
+    pair_free(&both->table);
+    pair_free(&both->memory);
 }
 
 /* ---- what happens between calls */
 
 /* The host changes some bytes of the memory: anywhere, or where a machine is. */
-static void write_outside(floor_pair *f)
+static void write_from_outside(system_pair *both)
 {
-    const ref_station *s = &f->record.s[below(STATIONS)];
-    size_t at = one_in(2) ? below(f->memory.length) : s->bay + (size_t)s->pc, n = between(1, 16);
-    for (size_t i = at; i < at + n && i < f->memory.length; i++) f->memory.reference[i] = (uint8_t)random64();
-    pair_same(&f->memory);
+    const ref_slot *s = &both->reference_table.slots[below(SLOTS)];
+    size_t at = one_in(2) ? below(both->memory.length) : s->base + (size_t)s->pc, n = between(1, 16);
+    for (size_t i = at; i < at + n && i < both->memory.length; i++) both->memory.reference[i] = (uint8_t)random64();
+    pair_same(&both->memory);
 }
 
-static void disturb(floor_pair *f, counts *n)
+static void disturb(system_pair *both, counts *n)
 {
     if (one_in(10)) {
-        write_outside(f);
-        n->written_outside++;
+        write_from_outside(both);
+        n->written_from_outside++;
     }
     if (one_in(14)) {
-        table_damage(&f->record);
-        give_table(f);
+        table_damage(&both->reference_table);
+        give_table(both);
         n->damaged++;
-        n->still_sound += ref_sound(&f->record);
+        n->still_sound += ref_sound(&both->reference_table);
     }
 }
 
 /* After a call the list goes on with the table, if it is sound and for this memory, or with the last one that was
  * (`good`). A new table for another length gets a memory of it. */
-static void settle(floor_pair *f, const call *c, uint8_t good[PF_TABLE_BYTES])
+static void settle(system_pair *both, const call *c, uint8_t good[PF_TABLE_BYTES])
 {
-    if (c->kind == CALL_NEW && !c->refusal && c->length != f->memory.length) {
-        pair_free(&f->memory);
-        f->memory = pair_new("memory", c->length);
+    if (c->kind == CALL_NEW && !c->refusal && c->length != both->memory.length) {
+        pair_free(&both->memory);
+        both->memory = pair_new("memory", c->length);
     }
-    if (ref_sound(&f->record) && f->record.length == f->memory.length) {
-        encode_table(&f->record, good);
+    if (ref_sound(&both->reference_table) && both->reference_table.memory_length == both->memory.length) {
+        encode_table(&both->reference_table, good);
     } else {
-        decode_table(good, &f->record);
-        give_table(f);
+        decode_table(good, &both->reference_table);
+        give_table(both);
     }
 }
 
@@ -151,37 +151,37 @@ static void tell_faults(void)
 
 /* ---- lists of calls */
 
-static enum kind some_kind(const ref_record *r)
+static enum kind some_kind(const ref_table *table)
 {
     static const uint8_t shares[KINDS] = { 1, 23, 8, 13, 12, 25, 6, 3, 3, 3, 3 };
     size_t n = below(100), k = 0, taken = 0;
     while (n >= shares[k]) n -= shares[k++];
-    for (size_t i = 0; i < STATIONS; i++) taken += r->s[i].status != ST_EMPTY;
-    return k == CALL_LOAD && taken == STATIONS && !one_in(4) ? CALL_UNLOAD : (enum kind)k;
+    for (size_t i = 0; i < SLOTS; i++) taken += table->slots[i].status != ST_EMPTY;
+    return k == CALL_LOAD && taken == SLOTS && !one_in(4) ? CALL_UNLOAD : (enum kind)k;
 }
 
-static void count(const call *c, const floor_pair *f, counts *n)
+static void count(const call *c, const system_pair *both, counts *n)
 {
     n->calls++;
     n->steps += c->steps;
     n->met[c->kind][c->refusal % REFUSALS]++;
     if (c->kind != CALL_RUN || c->refusal) return;
-    for (size_t k = 0; k < STATIONS; k++) n->statuses[f->record.s[k].status & 7]++;
+    for (size_t k = 0; k < SLOTS; k++) n->statuses[both->reference_table.slots[k].status & 7]++;
 }
 
 static int enough(const counts *n, const wanted *w) { return n->calls >= w->calls && n->steps >= w->steps; }
 
-static int one_call(floor_pair *f, enum kind kind, uint8_t *good, counts *n)
+static int one_call(system_pair *both, enum kind kind, uint8_t *good, counts *n)
 {
     call c;
     now.kind = kind;
     now.calls++;
     now.list_calls++;
-    call_make(&c, kind, f);
-    difference d = call_difference(&c, f);
-    count(&c, f, n);
+    call_make(&c, kind, both);
+    difference d = call_difference(&c, both);
+    count(&c, both, n);
     if (d.what) print_difference(&c, &d);
-    else settle(f, &c, good);
+    else settle(both, &c, good);
     call_free(&c);
     return d.what == NULL;
 }
@@ -194,16 +194,16 @@ static int run_list(uint64_t seed, const wanted *w, counts *n)
     now.list_calls = 0;
     int sound = one_in(2);
     uint8_t good[PF_TABLE_BYTES];
-    floor_pair f = floor_new(sound);
-    ref_record fresh;
-    ref_fresh_record(&fresh, f.memory.length);
-    encode_table(sound ? &f.record : &fresh, good);
-    int alike = sound || one_call(&f, CALL_NEW, good, n);
+    system_pair both = system_pair_new(sound);
+    ref_table empty;
+    ref_new(&empty, both.memory.length);
+    encode_table(sound ? &both.reference_table : &empty, good);
+    int alike = sound || one_call(&both, CALL_NEW, good, n);
     for (size_t left = between(20, 300); left && alike && !enough(n, w); left--) {
-        disturb(&f, n);
-        alike = one_call(&f, some_kind(&f.record), good, n);
+        disturb(&both, n);
+        alike = one_call(&both, some_kind(&both.reference_table), good, n);
     }
-    floor_free(&f);
+    system_pair_free(&both);
     n->lists++;
     return alike;
 }
@@ -238,7 +238,7 @@ static void print_counts(const wanted *w, const counts *n)
     printf("slots after pf_run, by status:");
     for (int s = 0; s < 8; s++) printf(" %d: %" PRIu64 "%s", s, n->statuses[s], s < 7 ? "," : "\n");
     printf("tables damaged: %" PRIu64 ", of these still sound: %" PRIu64 "\n", n->damaged, n->still_sound);
-    printf("memory written from outside: %" PRIu64 " times\n", n->written_outside);
+    printf("memory written from outside: %" PRIu64 " times\n", n->written_from_outside);
 }
 
 /* Each refusal is met at the calls that the header lists it for, in a full run, and at no other. */

@@ -85,7 +85,7 @@ static uint8_t *put_bytes(uint8_t *p, const uint8_t *bytes, size_t n)
     return p + n;
 }
 
-static uint8_t *put_values(uint8_t *p, const content *c)
+static uint8_t *put_parameters(uint8_t *p, const content *c)
 {
     p = put16(put16(put16(put16(p, c->window), c->input), c->output), c->start);
     *p = (uint8_t)c->quantum;
@@ -100,7 +100,7 @@ static void put_records(uint8_t *file, const content *c, size_t at[RECORDS + 1])
     *p++ = (uint8_t)c->board;
     at[0] = 0;
     at[1] = (size_t)(p - file);
-    p = put_values(put_head(p, 'B', 9), c);
+    p = put_parameters(put_head(p, 'B', 9), c);
     at[2] = (size_t)(p - file);
     p = put_bytes(put_head(p, 'C', c->code_length), c->code, c->code_length);
     at[3] = (size_t)(p - file);
@@ -130,8 +130,8 @@ static size_t spoil_order(uint8_t *file, const size_t at[RECORDS + 1])
     return n;
 }
 
-/* a byte of a record's head or of the values rather than of code or input */
-static size_t telling_place(const size_t at[RECORDS + 1])
+/* a byte of a record's head or of the parameters rather than of code or input */
+static size_t telling_offset(const size_t at[RECORDS + 1])
 {
     if (one_in(4)) return below(at[RECORDS]);
     size_t k = below(RECORDS), n = at[k + 1] - at[k];
@@ -140,12 +140,12 @@ static size_t telling_place(const size_t at[RECORDS + 1])
 
 static size_t spoil_bytes(uint8_t *file, const size_t at[RECORDS + 1])
 {
-    size_t n = at[RECORDS], more = one_in(16) ? between(1, 40000) : between(1, 8), place = telling_place(at);
+    size_t n = at[RECORDS], more = one_in(16) ? between(1, 40000) : between(1, 8), offset = telling_offset(at);
     switch (below(6)) {
-    case 0: file[place] ^= (uint8_t)(1u << below(8)); return n;
-    case 1: file[place] = (uint8_t)random64(); return n;
-    case 2: file[place] = (uint8_t)(file[place] + 1 - 2 * below(2)); return n;
-    case 3: return one_in(2) ? place : n - between(1, least(n, 8));
+    case 0: file[offset] ^= (uint8_t)(1u << below(8)); return n;
+    case 1: file[offset] = (uint8_t)random64(); return n;
+    case 2: file[offset] = (uint8_t)(file[offset] + 1 - 2 * below(2)); return n;
+    case 3: return one_in(2) ? offset : n - between(1, least(n, 8));
     case 4: random_bytes(file + n, more); return n + more;
     default: memset(file + n, 0, more); return n + more;
     }

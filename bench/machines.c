@@ -56,7 +56,7 @@ static int check_pattern(const char *path)
     if (!read_or_say(path)) return 1;
     uint64_t steps = 0;
     for (int q = 0; q < 2; q++) {
-        twin t = twin_new(the_pattern.size, 5);
+        twin t = twin_new(the_pattern.layout, 5);
         pattern_load(&the_pattern, &t);
         for (size_t i = 0; i < sizeof rounds / sizeof rounds[0]; i++) {
             steps += twin_run(&t, quanta[q], rounds[i]);

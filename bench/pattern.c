@@ -18,23 +18,23 @@ int pattern_read(const char *path, pattern *p)
     if (!f) return 0;
     p->length = fread(p->file, 1, sizeof p->file, f);
     fclose(f);
-    const uint8_t *values;
+    const uint8_t *parameters;
     uint16_t n;
-    if (!body_at(p, 6, "PB", &values, &n) || n != 9) return 0;
-    p->size = (sizes){ u16_at(values), u16_at(values + 2), u16_at(values + 4) };
-    p->start = u16_at(values + 6);
+    if (!body_at(p, 6, "PB", &parameters, &n) || n != 9) return 0;
+    p->layout = (layout){ u16_at(parameters), u16_at(parameters + 2), u16_at(parameters + 4) };
+    p->start = u16_at(parameters + 6);
     return body_at(p, 19, "PC", &p->code, &p->code_length)
-        && body_at(p, 23u + p->code_length, "PI", &p->input, &p->input_length)
-        && p->code_length <= p->size.window && p->input_length <= p->size.input;
+        && body_at(p, 23u + p->code_length, "PI", &p->first, &p->first_length)
+        && p->code_length <= p->layout.window && p->first_length <= p->layout.input;
 }
 
 void pattern_load(const pattern *p, twin *t)
 {
-    memset(t->partition.bytes, 0, t->partition.length);
-    memcpy(t->partition.bytes, p->code, p->code_length);
-    memcpy(t->reference.in, p->input, p->input_length);
-    ref_fresh(&t->reference, p->start);
-    t->reference.filled = p->input_length;
+    memset(t->reference_partition.bytes, 0, t->reference_partition.length);
+    memcpy(t->reference.window_bytes, p->code, p->code_length);
+    memcpy(t->reference.input_bytes, p->first, p->first_length);
+    ref_machine_fresh(&t->reference, p->start);
+    t->reference.filled = p->first_length;
     t->reference.read = t->reference.written = 0;
     twin_same(t);
 }

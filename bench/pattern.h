@@ -6,14 +6,14 @@
 typedef struct {
     uint8_t file[36895 + 1];
     size_t length;
-    sizes size;
+    layout layout;
     uint16_t start;
-    const uint8_t *code, *input;
-    uint16_t code_length, input_length;
+    const uint8_t *code, *first;    /* first: the first input */
+    uint16_t code_length, first_length;
 } pattern;
 
 /* Answers 0 if the file can't be read or its records are not where they should be. */
 int pattern_read(const char *path, pattern *p);
-/* Puts the pattern into a twin of its sizes, fresh, at its start. */
+/* Puts the pattern into a twin of its layout, fresh, at its start. */
 void pattern_load(const pattern *p, twin *t);
 #endif

@@ -65,7 +65,7 @@ static void fill_instructions(uint8_t *window, size_t n)
 typedef struct {
     size_t length;
     uint8_t code[12];
-    int8_t any;             /* the place of a byte that may be anything, or -1 */
+    int8_t any;             /* the offset of a byte that may be anything, or -1 */
 } loop;
 
 static const loop loops[] = {

@@ -19,11 +19,11 @@ static uint16_t random_window(void)
 
 static uint16_t random_capacity(void) { return (uint16_t)(one_in(8) ? 1 + below(4096) : 1 + below(24)); }
 
-static sizes random_sizes(void)
+static layout random_layout(void)
 {
     uint16_t window = random_window();
     if (window > 32768) window = 32768;
-    return (sizes){ window, random_capacity(), random_capacity() };
+    return (layout){ window, random_capacity(), random_capacity() };
 }
 
 /* codes at which a machine stops at once: a window without them runs longer */
@@ -48,7 +48,7 @@ static uint16_t random_address(const twin *t)
 {
     if (one_in(16)) return (uint16_t)below(32768);
     if (one_in(4)) return (uint16_t)((8192 * (1 + below(4)) - 3 + below(6)) % 32768);
-    return (uint16_t)below(t->size.window);
+    return (uint16_t)below(t->layout.window);
 }
 
 /* statuses 3 and 4 as a sound machine has them: nothing unread, output full */
@@ -57,7 +57,7 @@ static uint8_t random_status(ref2650 *m)
     if (!one_in(32)) return ST_RUN;
     uint8_t status = (uint8_t)(1 + below(7));
     if (status == ST_WANTS) m->read = m->filled;
-    if (status == ST_FULL) m->written = m->ocap;
+    if (status == ST_FULL) m->written = m->output;
     return status;
 }
 
@@ -71,9 +71,9 @@ static void random_machine(twin *t)
     m->psu = (uint8_t)(random64() & PSU_STORED);
     m->psl = (uint8_t)random64();
     for (int i = 0; i < 8; i++) m->ras[i] = random_address(t);
-    m->filled = (uint16_t)below(m->icap + 1u);
+    m->filled = (uint16_t)below(m->input + 1u);
     m->read = (uint16_t)below(m->filled + 1u);
-    m->written = (uint16_t)below(m->ocap + 1u);
+    m->written = (uint16_t)below(m->output + 1u);
     m->status = random_status(m);
 }
 
@@ -85,7 +85,7 @@ typedef struct {
 static void note_code(const twin *t, counts *n)
 {
     const ref2650 *m = &t->reference;
-    if (m->status == ST_RUN && m->pc < m->wsize) n->met[m->window[m->pc]] = 1;
+    if (m->status == ST_RUN && m->pc < m->window) n->met[m->window_bytes[m->pc]] = 1;
 }
 
 /* Pieces of random length until the machine stops or a few are done. */
@@ -108,11 +108,11 @@ static const char *run_pieces(twin *t, counts *n)
 static const char *run_case(uint64_t seed, counts *n)
 {
     random_seed(seed);
-    twin t = twin_new(random_sizes(), below(3) * below(40));
-    if (one_in(4)) random_bytes(t.reference.window, t.size.window);
-    else random_code(t.reference.window, t.size.window);
-    random_bytes(t.reference.in, (size_t)t.size.input + t.size.output);
-    unsigned machines = t.size.window > 1000 ? 200 : 20;
+    twin t = twin_new(random_layout(), below(3) * below(40));
+    if (one_in(4)) random_bytes(t.reference.window_bytes, t.layout.window);
+    else random_code(t.reference.window_bytes, t.layout.window);
+    random_bytes(t.reference.input_bytes, (size_t)t.layout.input + t.layout.output);
+    unsigned machines = t.layout.window > 1000 ? 200 : 20;
     const char *what = NULL;
     while (machines-- && !what) {
         random_machine(&t);

@@ -1,6 +1,6 @@
 #define _POSIX_C_SOURCE 200809L
 #include "speed.h"
-#include "floor.h"
+#include "systems.h"
 #include <dirent.h>
 #include <stdio.h>
 #include <stdlib.h>
@@ -8,7 +8,7 @@
 #include <time.h>
 
 /* A machine alone, and rounds of 1, 2 and 8 slots: each at quanta of 255 and of 1. */
-enum { QUANTA = 2, WAYS = 4, ALONE = 0, PASSES = 20, RUNS = 21, STEPS = 60000, MOST = 64 };
+enum { QUANTA = 2, WAYS = 4, ALONE = 0, SWEEPS = 20, RUNS = 21, STEPS = 60000, MOST = 64 };
 static const uint8_t quanta[QUANTA] = { 255, 1 };
 static const unsigned slots_of[WAYS] = { 0, 1, 2, 8 };
 
@@ -34,25 +34,25 @@ static double now(void)
     return (double)t.tv_sec + (double)t.tv_nsec * 1e-9;
 }
 
-static void keep(timing *best, double start, double between, double end)
+static void keep(timing *best, double start, double middle, double end)
 {
-    if (between - start < best->reference) best->reference = between - start;
-    if (end - between < best->product) best->product = end - between;
+    if (middle - start < best->reference) best->reference = middle - start;
+    if (end - middle < best->product) best->product = end - middle;
 }
 
 static void time_alone(row *r, unsigned quantum, timing *best)
 {
     uint64_t rounds = STEPS / quantum;
-    twin t = twin_new(r->pattern.size, 0);
+    twin t = twin_new(r->pattern.layout, 0);
     best->steps = (double)(rounds * quantum);
     for (int i = 0; i < RUNS && !r->different; i++) {
         pattern_load(&r->pattern, &t);
         double start = now();
-        for (uint64_t k = 0; k < rounds; k++) ref_run(&t.reference, quantum);
-        double between = now();
-        pf_machine_run(t.state.bytes, t.state.length, t.bytes.bytes, t.bytes.length,
-                       t.size.window, t.size.input, t.size.output, quantum, rounds);
-        keep(best, start, between, now());
+        for (uint64_t k = 0; k < rounds; k++) ref_machine_run(&t.reference, quantum);
+        double middle = now();
+        pf_machine_run(t.state.bytes, t.state.length, t.partition.bytes, t.partition.length,
+                       t.layout.window, t.layout.input, t.layout.output, quantum, rounds);
+        keep(best, start, middle, now());
         r->different = twin_difference(&t);
     }
     r->not_timed |= t.reference.status != ST_RUN;
@@ -61,23 +61,23 @@ static void time_alone(row *r, unsigned quantum, timing *best)
 
 static void time_rounds(row *r, unsigned quantum, unsigned slots, timing *best)
 {
-    static floors loaded, f;
+    static systems loaded, both;
     uint16_t rounds = (uint16_t)(STEPS / (quantum * slots));
     best->steps = (double)rounds * quantum * slots;
-    if (!floors_load(&loaded, &r->pattern, slots, (uint8_t)quantum)) {
+    if (!systems_load(&loaded, &r->pattern, slots, (uint8_t)quantum)) {
         r->not_timed = 1;
         return;
     }
     for (int i = 0; i < RUNS && !r->different; i++) {
-        f = loaded;
+        both = loaded;
         double start = now();
-        ref_pass(&f.record, f.reference_memory, sizeof f.reference_memory, rounds);
-        double between = now();
-        pf_run(f.table, sizeof f.table, f.memory, sizeof f.memory, rounds);
-        keep(best, start, between, now());
-        r->different = floors_difference(&f);
+        ref_run(&both.reference_table, both.reference_memory, sizeof both.reference_memory, rounds);
+        double middle = now();
+        pf_run(both.table, sizeof both.table, both.memory, sizeof both.memory, rounds);
+        keep(best, start, middle, now());
+        r->different = systems_difference(&both);
     }
-    r->not_timed |= !floors_running(&f, slots);
+    r->not_timed |= !systems_running(&both, slots);
 }
 
 static void time_row(row *r)
@@ -159,8 +159,8 @@ int speed(const char *directory)
     int count = found < MOST ? found : MOST;
     for (int i = 0; i < count; i++)
         if (!read_row(&rows[i], directory, names[i]->d_name)) return 2;
-    /* several passes over all patterns: another program's busy second then spoils no pattern's number */
-    for (int pass = 0; pass < PASSES; pass++)
+    /* several sweeps over all patterns: another program's busy second then spoils no pattern's number */
+    for (int sweep = 0; sweep < SWEEPS; sweep++)
         for (int i = 0; i < count; i++) time_row(&rows[i]);
     print_head();
     for (int i = 0; i < count; i++) failed |= print_row(&rows[i]);

@@ -2,6 +2,7 @@
 #ifndef SPEED_H
 #define SPEED_H
 
-/* Prints a table of the pattern files (.pat) in a directory. It compares too, and answers 1 after a difference; it asserts nothing about time. */
+/* Prints the speeds of the pattern files (.pat) in a directory, a row for each. It compares too, and answers 1 after a
+ * difference; it asserts nothing about time. */
 int speed(const char *directory);
 #endif

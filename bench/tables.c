@@ -7,15 +7,15 @@
 
 enum { WINDOW_MOST = 32768, CAPACITY_MOST = 4096, ADDRESSES = 32768 };
 
-size_t partition_size(const ref_station *s) { return (size_t)s->window + s->icap + s->ocap; }
-size_t partition_end(const ref_station *s) { return s->bay + partition_size(s); }
+size_t partition_size(const ref_slot *s) { return (size_t)s->window + s->input + s->output; }
+size_t partition_end(const ref_slot *s) { return s->base + partition_size(s); }
 
 static size_t least(size_t a, size_t b) { return a < b ? a : b; }
 
 /* ---- sound tables */
 
 /* anywhere, most often inside the window, often where a page ends */
-static uint16_t random_address(const ref_station *s)
+static uint16_t random_address(const ref_slot *s)
 {
     if (one_in(16)) return (uint16_t)below(ADDRESSES);
     if (one_in(8)) return (uint16_t)((8192 * between(1, 4) - 3 + below(6)) % ADDRESSES);
@@ -23,14 +23,14 @@ static uint16_t random_address(const ref_station *s)
 }
 
 /* statuses 3 and 4 as a sound table has them: nothing unread, output full */
-static void random_status(ref_station *s)
+static void random_status(ref_slot *s)
 {
     s->status = (uint8_t)(one_in(3) ? between(1, 7) : ST_RUN);
     if (s->status == ST_WANTS) s->read = s->filled;
-    if (s->status == ST_FULL) s->written = s->ocap;
+    if (s->status == ST_FULL) s->written = s->output;
 }
 
-static void random_state(ref_station *s)
+static void random_state(ref_slot *s)
 {
     s->pc = one_in(2) ? 0 : random_address(s);
     s->r0 = (uint8_t)random64();
@@ -38,9 +38,9 @@ static void random_state(ref_station *s)
     s->psu = (uint8_t)(random64() & PSU_STORED);
     s->psl = (uint8_t)random64();
     for (int i = 0; i < 8; i++) s->ras[i] = random_address(s);
-    s->filled = (uint16_t)(one_in(4) ? s->icap : below(s->icap + 1u));
+    s->filled = (uint16_t)(one_in(4) ? s->input : below(s->input + 1u));
     s->read = (uint16_t)(one_in(4) ? s->filled : below(s->filled + 1u));
-    s->written = (uint16_t)(one_in(4) ? s->ocap : below(s->ocap + 1u));
+    s->written = (uint16_t)(one_in(4) ? s->output : below(s->output + 1u));
     random_status(s);
 }
 
@@ -52,32 +52,32 @@ static uint16_t random_capacity(size_t room)
     return (uint16_t)between(1, one_in(8) ? most : least(most, 24));
 }
 
-/* A partition at or behind a place, if one still fits before the memory's end. Answers where the next may start. */
-static size_t random_partition(ref_station *s, size_t place, size_t length)
+/* A partition at or behind a location, if one still fits before the memory's end. Answers where the next may start. */
+static size_t random_partition(ref_slot *s, size_t location, size_t length)
 {
-    size_t start = one_in(2) ? place : place + below(60);
-    if (start + 3 > length) return place;
+    size_t start = one_in(2) ? location : location + below(60);
+    if (start + 3 > length) return location;
     size_t all = between(3, least(length - start, one_in(10) ? WINDOW_MOST + 2 * CAPACITY_MOST : 700));
-    s->bay = (uint32_t)start;
-    s->icap = random_capacity(all - 2);
-    s->ocap = random_capacity(all - 1 - s->icap);
-    s->window = (uint32_t)least(all - s->icap - s->ocap, WINDOW_MOST);
-    s->stint = (uint8_t)(one_in(4) ? 255 : between(1, 20));
+    s->base = (uint32_t)start;
+    s->input = random_capacity(all - 2);
+    s->output = random_capacity(all - 1 - s->input);
+    s->window = (uint32_t)least(all - s->input - s->output, WINDOW_MOST);
+    s->quantum = (uint8_t)(one_in(4) ? 255 : between(1, 20));
     random_state(s);
     return partition_end(s);
 }
 
 /* Partitions from the memory's start on, in slots in any order. */
-void table_random(ref_record *record, uint8_t *memory, size_t length)
+void table_random(ref_table *table, uint8_t *memory, size_t length)
 {
-    size_t place = 0, first = below(STATIONS), step = 1 + 2 * below(4);
-    memset(record, 0, sizeof *record);
-    record->length = (uint32_t)length;
-    for (size_t i = 0; i < STATIONS; i++) {
-        ref_station *s = &record->s[(first + i * step) % STATIONS];
+    size_t location = 0, first = below(SLOTS), step = 1 + 2 * below(4);
+    memset(table, 0, sizeof *table);
+    table->memory_length = (uint32_t)length;
+    for (size_t i = 0; i < SLOTS; i++) {
+        ref_slot *s = &table->slots[(first + i * step) % SLOTS];
         if (one_in(4)) continue;
-        place = random_partition(s, place, length);
-        program_fill(memory + s->bay, s->window);
+        location = random_partition(s, location, length);
+        program_fill(memory + s->base, s->window);
     }
 }
 
@@ -99,32 +99,32 @@ static uint8_t edge8(void)
 }
 
 /* about the memory's length, the largest memory, and the largest number: sums with these must not wrap round */
-static uint32_t edge32(const ref_record *record, const ref_station *s)
+static uint32_t edge32(const ref_table *table, const ref_slot *s)
 {
-    uint32_t size = (uint32_t)partition_size(s);
+    uint32_t size = (uint32_t)partition_size(s), end = table->memory_length;
     const uint32_t edges[] = { 0, 1, 65535, 65536, 65537, UINT32_MAX, UINT32_MAX - size, 0u - size, 1u << 31,
-                               record->length, record->length - 1, record->length + 1, record->length - size,
-                               record->length - size + 1, s->bay + 65536, s->bay + 1, s->bay - 1 };
+                               end, end - 1, end + 1, end - size, end - size + 1,
+                               s->base + 65536, s->base + 1, s->base - 1 };
     return ONE_OF(edges);
 }
 
 /* beside another partition, or one byte into it */
-static uint32_t beside(const ref_station *s, const ref_station *other)
+static uint32_t beside(const ref_slot *s, const ref_slot *other)
 {
-    size_t end = partition_end(other), front = other->bay - partition_size(s);
-    const size_t places[] = { end, end - 1, front, front + 1, other->bay };
-    return (uint32_t)ONE_OF(places);
+    size_t end = partition_end(other), front = other->base - partition_size(s);
+    const size_t locations[] = { end, end - 1, front, front + 1, other->base };
+    return (uint32_t)ONE_OF(locations);
 }
 
 /* a field set to an edge of its own */
-static void set_edge(ref_record *record, ref_station *s)
+static void set_edge(ref_table *table, ref_slot *s)
 {
     switch (below(14)) {
-    case 0: s->bay = edge32(record, s); break;
+    case 0: s->base = edge32(table, s); break;
     case 1: s->window = edge_or_next(s->window); break;
-    case 2: s->icap = edge_or_next(s->icap); break;
-    case 3: s->ocap = edge_or_next(s->ocap); break;
-    case 4: s->stint = edge8(); break;
+    case 2: s->input = edge_or_next(s->input); break;
+    case 3: s->output = edge_or_next(s->output); break;
+    case 4: s->quantum = edge8(); break;
     case 5: s->pc = edge16(); break;
     case 6: s->ras[below(8)] = edge16(); break;
     case 7: s->psu ^= (uint8_t)(1u << below(8)); break;
@@ -133,67 +133,67 @@ static void set_edge(ref_record *record, ref_station *s)
     case 10: s->filled = edge16(); break;
     case 11: s->read = edge16(); break;
     case 12: s->written = edge16(); break;
-    default: record->length = edge32(record, s); break;
+    default: table->memory_length = edge32(table, s); break;
     }
 }
 
 /* a field set to an edge that another field gives */
-static void set_relation(ref_record *record, ref_station *s)
+static void set_relation(ref_table *table, ref_slot *s)
 {
     switch (below(9)) {
     case 0: s->read = (uint16_t)(s->filled + below(2)); break;
-    case 1: s->filled = (uint16_t)(s->icap + below(2)); break;
-    case 2: s->written = (uint16_t)(s->ocap + below(2)); break;
-    case 3: s->icap = (uint16_t)(s->filled - below(2)); break;
-    case 4: s->ocap = (uint16_t)(s->written - below(2)); break;
+    case 1: s->filled = (uint16_t)(s->input + below(2)); break;
+    case 2: s->written = (uint16_t)(s->output + below(2)); break;
+    case 3: s->input = (uint16_t)(s->filled - below(2)); break;
+    case 4: s->output = (uint16_t)(s->written - below(2)); break;
     case 5: s->status = ST_WANTS; break;
     case 6: s->status = ST_FULL; break;
-    case 7: s->bay = beside(s, &record->s[below(STATIONS)]); break;
-    default: s->window = (uint32_t)(record->length - s->bay - s->icap - s->ocap + below(2)) & 0xFFFF; break;
+    case 7: s->base = beside(s, &table->slots[below(SLOTS)]); break;
+    default: s->window = (uint32_t)(table->memory_length - s->base - s->input - s->output + below(2)) & 0xFFFF; break;
     }
 }
 
-static void change_byte(ref_record *record)
+static void change_byte(ref_table *table)
 {
     uint8_t bytes[PF_TABLE_BYTES];
-    encode_table(record, bytes);
+    encode_table(table, bytes);
     size_t at = one_in(8) ? below(4) : below(sizeof bytes);
     bytes[at] = one_in(2) ? (uint8_t)random64() : (uint8_t)(bytes[at] ^ 1u << below(8));
-    decode_table(bytes, record);
+    decode_table(bytes, table);
 }
 
-static void change_all(ref_record *record)
+static void change_all(ref_table *table)
 {
     uint8_t bytes[PF_TABLE_BYTES];
     random_bytes(bytes, sizeof bytes);
     if (one_in(3)) memset(bytes, one_in(2) ? 0 : 0xFF, sizeof bytes);
-    decode_table(bytes, record);
+    decode_table(bytes, table);
 }
 
-static void exchange(ref_station *a, ref_station *b)
+static void exchange(ref_slot *a, ref_slot *b)
 {
-    ref_station old = *a;
+    ref_slot old = *a;
     *a = *b;
     if (one_in(2)) *b = old;
 }
 
-/* The record as its bytes have it: the reference compares padding too, which assignments may leave anyhow. */
-static void clean(ref_record *record)
+/* The table as its bytes have it: the reference compares padding too, which assignments may leave anyhow. */
+static void clean(ref_table *table)
 {
     uint8_t bytes[PF_TABLE_BYTES];
-    encode_table(record, bytes);
-    decode_table(bytes, record);
+    encode_table(table, bytes);
+    decode_table(bytes, table);
 }
 
-void table_damage(ref_record *record)
+void table_damage(ref_table *table)
 {
-    ref_station *s = &record->s[below(STATIONS)];
+    ref_slot *s = &table->slots[below(SLOTS)];
     switch (below(12)) {
-    case 0: case 1: case 2: change_byte(record); break;
-    case 3: case 4: case 5: case 6: set_edge(record, s); break;
-    case 7: case 8: case 9: set_relation(record, s); break;
-    case 10: exchange(s, &record->s[below(STATIONS)]); break;
-    default: if (one_in(4)) change_all(record); else set_edge(record, s); break;
+    case 0: case 1: case 2: change_byte(table); break;
+    case 3: case 4: case 5: case 6: set_edge(table, s); break;
+    case 7: case 8: case 9: set_relation(table, s); break;
+    case 10: exchange(s, &table->slots[below(SLOTS)]); break;
+    default: if (one_in(4)) change_all(table); else set_edge(table, s); break;
     }
-    clean(record);
+    clean(table);
 }

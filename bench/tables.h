@@ -1,14 +1,14 @@
 /* Random tables: sound ones over a memory, and damaged ones. */
 #ifndef TABLES_H
 #define TABLES_H
-#include "reference/ref_floor.h"
+#include "reference/ref_supervisor.h"
 
 /* Any sound table for a memory of that length, in which every window gets a program. */
-void table_random(ref_record *record, uint8_t *memory, size_t length);
+void table_random(ref_table *table, uint8_t *memory, size_t length);
 
 /* One thing changed: what comes out may be sound. */
-void table_damage(ref_record *record);
+void table_damage(ref_table *table);
 
-size_t partition_size(const ref_station *s);
-size_t partition_end(const ref_station *s);
+size_t partition_size(const ref_slot *s);
+size_t partition_end(const ref_slot *s);
 #endif

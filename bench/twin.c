@@ -3,30 +3,30 @@
 
 enum { BEHIND = 0x3C };
 
-size_t partition_length(sizes size) { return (size_t)size.window + size.input + size.output; }
+static size_t partition_size(layout sizes) { return (size_t)sizes.window + sizes.input + sizes.output; }
 
-twin twin_new(sizes size, size_t behind)
+twin twin_new(layout sizes, size_t behind)
 {
     twin t;
     memset(&t, 0, sizeof t);
-    t.size = size;
-    t.partition = lent_new(partition_length(size));
-    t.bytes = lent_new(partition_length(size) + behind);
+    t.layout = sizes;
+    t.reference_partition = lent_new(partition_size(sizes));
+    t.partition = lent_new(partition_size(sizes) + behind);
     t.state = lent_new(PF_STATE_BYTES);
-    memset(t.bytes.bytes, BEHIND, t.bytes.length);
-    t.reference.wsize = size.window;
-    t.reference.icap = size.input;
-    t.reference.ocap = size.output;
-    t.reference.window = t.partition.bytes;
-    t.reference.in = t.partition.bytes + size.window;
-    t.reference.out = t.partition.bytes + size.window + size.input;
+    memset(t.partition.bytes, BEHIND, t.partition.length);
+    t.reference.window = sizes.window;
+    t.reference.input = sizes.input;
+    t.reference.output = sizes.output;
+    t.reference.window_bytes = t.reference_partition.bytes;
+    t.reference.input_bytes = t.reference.window_bytes + sizes.window;
+    t.reference.output_bytes = t.reference.input_bytes + sizes.input;
     return t;
 }
 
 void twin_free(twin *t)
 {
+    lent_free(&t->reference_partition);
     lent_free(&t->partition);
-    lent_free(&t->bytes);
     lent_free(&t->state);
 }
 
@@ -54,15 +54,15 @@ void twin_encode(const ref2650 *m, uint8_t *out)
 
 void twin_same(twin *t)
 {
-    memcpy(t->bytes.bytes, t->partition.bytes, t->partition.length);
+    memcpy(t->partition.bytes, t->reference_partition.bytes, t->reference_partition.length);
     twin_encode(&t->reference, t->state.bytes);
 }
 
 uint64_t twin_run(twin *t, uint64_t quantum, uint64_t rounds)
 {
-    pf_machine_run(t->state.bytes, t->state.length, t->bytes.bytes, t->bytes.length,
-                   t->size.window, t->size.input, t->size.output, quantum, rounds);
-    return ref_run(&t->reference, quantum * rounds);
+    pf_machine_run(t->state.bytes, t->state.length, t->partition.bytes, t->partition.length,
+                   t->layout.window, t->layout.input, t->layout.output, quantum, rounds);
+    return ref_machine_run(&t->reference, quantum * rounds);
 }
 
 static const struct { const char *name; size_t at, length; } fields[] = {
@@ -79,14 +79,14 @@ static const char *state_difference(const twin *t)
     return NULL;
 }
 
-static const char *bytes_difference(const twin *t)
+static const char *partition_difference(const twin *t)
 {
-    const uint8_t *r = t->partition.bytes, *p = t->bytes.bytes;
-    const sizes s = t->size;
-    if (memcmp(r, p, s.window)) return "window";
-    if (memcmp(r + s.window, p + s.window, s.input)) return "input buffer";
-    if (memcmp(r + s.window + s.input, p + s.window + s.input, s.output)) return "output buffer";
-    for (size_t i = t->partition.length; i < t->bytes.length; i++)
+    const uint8_t *r = t->reference_partition.bytes, *p = t->partition.bytes;
+    const layout l = t->layout;
+    if (memcmp(r, p, l.window)) return "window";
+    if (memcmp(r + l.window, p + l.window, l.input)) return "input buffer";
+    if (memcmp(r + l.window + l.input, p + l.window + l.input, l.output)) return "output buffer";
+    for (size_t i = t->reference_partition.length; i < t->partition.length; i++)
         if (p[i] != BEHIND) return "bytes behind the partition";
     return NULL;
 }
@@ -94,8 +94,8 @@ static const char *bytes_difference(const twin *t)
 const char *twin_difference(const twin *t)
 {
     const char *what = state_difference(t);
-    if (!what) what = bytes_difference(t);
+    if (!what) what = partition_difference(t);
     if (!what && !lent_intact(&t->state)) what = "bytes around the state";
-    if (!what && !lent_intact(&t->bytes)) what = "bytes around the partition";
+    if (!what && !lent_intact(&t->partition)) what = "bytes around the partition";
     return what;
 }

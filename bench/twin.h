@@ -5,20 +5,21 @@
 #include "pattern_floor.h"
 #include "reference/ref2650.h"
 
+/* a partition's sizes: of its window, and of its input and output buffer */
 typedef struct {
     uint16_t window, input, output;
-} sizes;
+} layout;
 
 typedef struct {
-    ref2650 reference;  /* with the bytes of its partition behind `window` */
-    lent partition;     /* the reference's own */
-    lent state, bytes;  /* the product's; `bytes` may be longer than the partition */
-    sizes size;
+    layout layout;
+    ref2650 reference;          /* its bytes are those of its partition */
+    lent reference_partition;
+    lent state, partition;      /* the product's; more bytes may lie behind its partition */
 } twin;
 
-/* A twin of these sizes with `behind` bytes after the product's partition. All bytes are the caller's to fill:
+/* A twin of this layout with `behind` bytes after the product's partition. All bytes are the caller's to fill:
  * the reference's machine and partition first, then twin_same for the product's. */
-twin twin_new(sizes size, size_t behind);
+twin twin_new(layout sizes, size_t behind);
 void twin_same(twin *t);
 void twin_free(twin *t);
 /* Runs both, rounds times quantum steps; answers the steps that the reference took at status 1. */
@@ -27,5 +28,4 @@ uint64_t twin_run(twin *t, uint64_t quantum, uint64_t rounds);
 const char *twin_difference(const twin *t);
 /* The reference's state in the product's 34 bytes. */
 void twin_encode(const ref2650 *m, uint8_t *out);
-size_t partition_length(sizes size);
 #endif

@@ -8,31 +8,37 @@ static uint8_t data[1 << 20], file[1 << 17], memory[PF_LISTING_MEMORY], text[PF_
 static char made[PF_LISTING_BYTES + 1];
 
 typedef struct {
-    size_t name, text, head, run, middle, run2, tail;  /* lengths */
-    const uint8_t *bytes;                              /* the name and what follows it */
-    uint8_t byte, byte2;
+    size_t name, text, packed;  /* lengths */
+    const uint8_t *bytes;       /* the name and what follows it */
 } entry;
+
+enum {
+    NUMBERS = 26,     /* the length of the numbers before the name */
+    REPEATED = 32768  /* what the head of a repeated byte has more than its count */
+};
 
 static size_t word(const uint8_t *p) { return (size_t)(p[0] << 8 | p[1]); }
 
-static entry entry_at(const uint8_t *p)
-{
-    return (entry){ word(p), word(p + 2), word(p + 4), word(p + 6), word(p + 8), word(p + 10), word(p + 12),
-                    p + 16, p[14], p[15] };
-}
+static entry entry_at(const uint8_t *p) { return (entry){ word(p), word(p + 2), word(p + 4), p + NUMBERS }; }
 
-static size_t entry_length(const entry *e) { return 16 + e->name + e->text + e->head + e->middle + e->tail; }
+static size_t entry_length(const entry *e) { return NUMBERS + e->name + e->text + e->packed; }
 
 static size_t unpack(const entry *e)
 {
-    const uint8_t *from = e->bytes + e->name + e->text;
+    const uint8_t *from = e->bytes + e->name + e->text, *end = from + e->packed;
     uint8_t *to = file;
-    memcpy(to, from, e->head);
-    memset(to += e->head, e->byte, e->run);
-    memcpy(to += e->run, from += e->head, e->middle);
-    memset(to += e->middle, e->byte2, e->run2);
-    memcpy(to += e->run2, from + e->middle, e->tail);
-    return (size_t)(to + e->tail - file);
+    while (from < end) {
+        size_t head = word(from), count = head % REPEATED;
+        from += 2;
+        if (head < REPEATED) {
+            memcpy(to, from, count);
+            from += count;
+        } else {
+            memset(to, *from++, count);
+        }
+        to += count;
+    }
+    return (size_t)(to - file);
 }
 
 static int same(const entry *e, const char *how, const void *got, size_t length)

@@ -1,6 +1,6 @@
-/* pattern_floor.h: a floor of eight Signetics 2650 patterns in one memory, for hosts in C.
+/* pattern_floor.h: the pattern floor, eight Signetics 2650 patterns side by side in one memory, for hosts in C.
  *
- * docs/HOSTING.md is the page that goes with it: the life of a floor, and the bytes of a table.
+ * docs/HOSTING.md is the page that goes with it: the life of a system, which is a table and its memory, and the bytes of a table.
  *
  * BUFFERS. A buffer is a pointer and then its length in bytes. The host owns every buffer; a call uses it until it returns, keeps no
  * pointer, allocates nothing and has no state of its own. Any length is taken, and what is wrong is answered by a number.
@@ -81,7 +81,7 @@ static inline unsigned pf_count(pf_answer answer) { return (unsigned)(answer & 0
 
 /* ---- The table -------------------------------------------------------------------------------------------------------
  * A table is PF_TABLE_BYTES bytes that these calls write and read; between calls the host keeps them, and may copy, store and move
- * them. Every sound table has exactly one form as bytes. Together with its memory it is the whole state of a floor. */
+ * them. Every sound table has exactly one form as bytes. A table and its memory are a system: they are its whole state. */
 
 /* Makes a table of eight empty slots for a memory of `length` bytes, which is not touched. The table's old bytes do not matter.
  * Refused: 1 (here only for the buffer's length), 2. */
@@ -122,10 +122,10 @@ pf_answer pf_report(const uint8_t *table, size_t table_length, size_t slot, uint
 
 /* ---- Pattern files --------------------------------------------------------------------------------------------------- */
 
-/* Reads a file's values into the first PF_VALUES_BYTES bytes of `values`; the rest is left:
+/* Reads a file's parameters into the first PF_VALUES_BYTES bytes of `parameters`; the rest is left:
  *   0 window size, 2 input capacity, 4 output capacity, 6 start address, two bytes each, high byte first; 8 quantum.
  * Refused: 6 to 11, 16. */
-pf_answer pf_read(const uint8_t *file, size_t file_length, uint8_t *values, size_t values_length);
+pf_answer pf_read(const uint8_t *file, size_t file_length, uint8_t *parameters, size_t parameters_length);
 
 /* Where a file's code, and its first input, lie in the file: pf_offset() and pf_length() take the answer apart. For a file that is refused
  * it is 0: nothing at 0. The refusal's number is pf_read's. */
@@ -136,11 +136,11 @@ static inline size_t pf_length(pf_stretch stretch) { return (size_t)(stretch & 0
 pf_stretch pf_code(const uint8_t *file, size_t file_length);
 pf_stretch pf_input(const uint8_t *file, size_t file_length);
 
-/* Writes the file of a pattern to the front of `buffer`; pf_count() is the file's length. `values` are PF_VALUES_BYTES bytes, as of pf_read;
+/* Writes the file of a pattern to the front of `buffer`; pf_count() is the file's length. `parameters` are PF_VALUES_BYTES bytes, as of pf_read;
  * `image` is the whole window, of which the file leaves out the zeros at its end; `input` is the first input, or nothing. Each pattern has exactly one
  * file; a buffer of PF_FILE_MOST bytes is always long enough.
- * Refused: 9 (also if `values` is of another length, or `image` not of the window's size), 11, 16. */
-pf_answer pf_write(const uint8_t *values, size_t values_length, const uint8_t *image, size_t image_length,
+ * Refused: 9 (also if `parameters` is of another length, or `image` not of the window's size), 11, 16. */
+pf_answer pf_write(const uint8_t *parameters, size_t parameters_length, const uint8_t *image, size_t image_length,
                    const uint8_t *input, size_t input_length, uint8_t *buffer, size_t buffer_length);
 
 /* ---- The bench run --------------------------------------------------------------------------------------------------- */
@@ -150,7 +150,7 @@ pf_answer pf_write(const uint8_t *values, size_t values_length, const uint8_t *i
  *   status in decimal, counter in four hex digits; PSU, PSL, R0, R1 to R3 of bank 0, R1 to R3 of bank 1 in two each
  *   out, and each byte that was put out in two hex digits
  * or, of a file that is refused, `refused N` and a newline: the call itself is then accepted. Nothing is fed, and nothing drained until the end.
- * The memory is used as a floor's, and holds the pattern's bytes afterwards; a file that is refused leaves it.
+ * The memory is used as a system's, and holds the pattern's bytes afterwards; a file that is refused leaves it.
  * Refused: 16 if `text` is shorter than PF_LISTING_BYTES, then 2 if the memory is not of PF_LISTING_MEMORY bytes. */
 pf_answer pf_listing(const uint8_t *file, size_t file_length, uint8_t *memory, size_t memory_length,
                      uint8_t *text, size_t text_length);

@@ -1,44 +1,164 @@
 #!/usr/bin/env python3
-"""Makes crates/vectors/data/vectors.bin of the vectors in bench.txt: pattern files, and what the bench run must print of each.
+"""Makes crates/vectors/data/vectors.bin of the vectors in bench.txt: pattern files, what the reader must answer for each, and
+what its bench run must print.
 
 usage: make_data.py BENCH.TXT vectors.bin
 
-A file is stored as bytes, a run of one byte, bytes, a run, bytes: its two longest runs, where they have 64 bytes or more. An
-entry of vectors.bin: seven two-byte numbers, high byte first (the length of the name, of the text, of the bytes, of the run, of
-the bytes, of the run, of the bytes), the byte of each run, then the name, the text and the bytes.
+The text of a bench run is the one of bench.txt. What the reader has to answer is worked out here, by a reader of pattern files
+of form 1 that shares nothing with the product, and held against the `refused N` lines of bench.txt. (The bench run refuses a
+file of more than 36,895 bytes by 6 before it is read, so there the two may differ.)
+
+An entry of vectors.bin: thirteen numbers of two bytes, high byte first; then the name, the text and the packed file.
+
+    0   the length of the name
+    2   the length of the text
+    4   the length of the packed file
+    6   the number of the reader's refusal, 0 for none; if there is one, the numbers behind it are 0
+    8   window, input, output, start and quantum
+    18  where the body of PC starts in the file, and its length
+    22  where the body of PI starts in the file, and its length
+
+A packed file is a list of pieces. A piece is a count of two bytes and that many bytes; or 32,768 and a count, and one byte to
+repeat. A count is below 32,768.
 """
 import itertools
 import sys
 
-from bench_text import vectors
+LONGEST_FILE = 36895
+REPEATED = 32768  # what the head of a repeated byte has more than its count
+SHORTEST_RUN = 6  # a run of fewer bytes costs less among its neighbours
 
 
-def runs(file):
-    """place, length and byte of the two longest runs, in their order; runs of no bytes at the end where there are none"""
-    found, at = [], 0
-    for byte, same in itertools.groupby(file):
-        size = len(list(same))
-        if size >= 64:
-            found.append((at, size, byte))
-        at += size
-    longest = sorted(found, key=lambda run: -run[1])[:2]
-    return (sorted(longest) + [(len(file), 0, 0)] * 2)[:2]
+def numbers(*values):
+    return b"".join(n.to_bytes(2, "big") for n in values)
+
+
+def unhexed(text):
+    """A file as bench.txt has it: pieces of hex, XX*n for a byte n times, - for no bytes."""
+    file = b""
+    for piece in [] if text == "-" else text.split(","):
+        byte, times, count = piece.partition("*")
+        file += bytes.fromhex(byte) * (int(count) if times else 1)
+    return file
+
+
+def vectors(path):
+    """name, file, expected lines of the bench run"""
+    found = []
+    for line in open(path):
+        line = line.rstrip("\n")
+        if line.startswith("V "):
+            name, size, text = [part.strip() for part in line[2:].split("|")]
+            file = unhexed(text)
+            assert len(file) == int(size), name
+            found.append((name, file, []))
+        elif line.startswith("= "):
+            found[-1][2].append(line[2:])
+    return found
+
+
+class Refused(Exception):
+    pass
+
+
+def records(file):
+    """The frames in order, each checked when it is asked for: place and length of its body."""
+    at = 0
+    for mark, fixed in (b"PV", 2), (b"PB", 9), (b"PC", None), (b"PI", None), (b"PE", 0):
+        if file[at:at + 2] != mark or len(file) < at + 4:
+            raise Refused(6)
+        size = int.from_bytes(file[at + 2:at + 4], "big")
+        if fixed is not None and size != fixed or len(file) < at + 4 + size:
+            raise Refused(6)
+        yield at + 4, size
+        at += 4 + size
+    if at != len(file):
+        raise Refused(6)
+
+
+def read(file):
+    """window, input, output, start, quantum, and place and length of both bodies"""
+    walk = records(file)
+    at, _ = next(walk)
+    if file[at] != 1:
+        raise Refused(7)
+    if file[at + 1] != 1:
+        raise Refused(8)
+    at, _ = next(walk)
+    window, given, output, start = [int.from_bytes(file[at + i:at + i + 2], "big") for i in (0, 2, 4, 6)]
+    quantum = file[at + 8]
+    if not (1 <= window <= 32768 and 1 <= given <= 4096 and 1 <= output <= 4096 and start < window and quantum > 0):
+        raise Refused(9)
+    code = next(walk)
+    if code[1] > window or code[1] and file[sum(code) - 1] == 0:
+        raise Refused(10)
+    first = next(walk)
+    if first[1] > given:
+        raise Refused(11)
+    for _ in walk:
+        pass
+    return [window, given, output, start, quantum, *code, *first]
+
+
+def answered(file):
+    """The number of the refusal, 0 for none; and what `read` gives, or zeros."""
+    try:
+        return [0, *read(file)]
+    except Refused as refusal:
+        return [refusal.args[0]] + [0] * 9
+
+
+def counted(run):
+    """The run in parts that a count can count."""
+    return [run[at:at + REPEATED - 1] for at in range(0, len(run), REPEATED - 1)]
+
+
+def copied(run):
+    return b"".join(numbers(len(part)) + part for part in counted(run))
+
+
+def repeated(run):
+    return b"".join(numbers(REPEATED + len(part)) + part[:1] for part in counted(run))
+
+
+def packed(file):
+    pieces, plain = b"", b""
+    for _, same in itertools.groupby(file):
+        run = bytes(same)
+        if len(run) < SHORTEST_RUN:
+            plain += run
+        else:
+            pieces += copied(plain) + repeated(run)
+            plain = b""
+    return pieces + copied(plain)
+
+
+def unpacked(pieces):
+    file, at = b"", 0
+    while at < len(pieces):
+        head = int.from_bytes(pieces[at:at + 2], "big")
+        stored = head if head < REPEATED else 1
+        file += pieces[at + 2:at + 2 + stored] * (1 if head < REPEATED else head - REPEATED)
+        at += 2 + stored
+    return file
 
 
 def entry(name, file, lines):
+    answer = answered(file)
+    said = int(lines[0].split()[1]) if lines[0].startswith("refused") else 0
+    assert answer[0] == said or len(file) > LONGEST_FILE and said == 6, (name, answer[0], said)
+    pieces = packed(file)
+    assert unpacked(pieces) == file, name
     text = "".join(line + "\n" for line in lines)
-    (at, size, byte), (at2, size2, byte2) = runs(file)
-    head, middle, tail = file[:at], file[at + size:at2], file[at2 + size2:]
-    assert head + bytes([byte]) * size + middle + bytes([byte2]) * size2 + tail == file
-    numbers = [len(name), len(text), len(head), size, len(middle), size2, len(tail)]
-    return b"".join(n.to_bytes(2, "big") for n in numbers) + bytes([byte, byte2]) + name.encode() + text.encode() + head + middle + tail
+    return numbers(len(name), len(text), len(pieces), *answer) + name.encode() + text.encode() + pieces
 
 
 def main(bench, target):
     entries = [entry(*vector) for vector in vectors(bench)]
+    refused = sum(e[6:8] != numbers(0) for e in entries)
     out = b"".join(entries)
     open(target, "wb").write(out)
-    print(f"{len(entries)} vectors, {len(out)} bytes")
+    print(f"{len(entries)} vectors, {len(entries) - refused} files accepted, {refused} refused, {len(out)} bytes")
 
 
 if __name__ == "__main__":

@@ -17,8 +17,8 @@ class Places:
 
     spec    what `tie.spec` takes, in its order: ("Inv", loop), ("μ", loop) or ("Need", need)
     loops   loop -> (entry, present), what its invariant takes. `entry` lists the locals where the
-            loop begins, each as (number, short sum of its type, name or ""). `present` lists what a
-            turn changes, each as (name, number)
+            loop begins, each as (number, short sum of its type, name or ""). `present` lists what
+            an iteration changes, each as (name, number)
     trails  need -> the things on the way from the entry, oldest first. A thing is `name`, or
             `name.side` where the code parts (`if1.taken`)
     ways    thing -> where ways meet (`.came`), for each way the parts of its tuple: a thing's name,

@@ -1,8 +1,8 @@
 -- Laws that the checker has shown: a sound layout as facts with names, and back.
 use mathlib.Core.Bool.{true}
 use mathlib.Core.Path.{_≡_}
-use Rattle.common.specs.Layouts.{layoutSound}
-use Rattle.common.specs.TestLaws.{Within, within-fact, within-test, all-holds, holds-all}
+use Rattle.common.specs.Layout.{layoutSound}
+use Rattle.common.specs.TestLaws.{Within, within-fact, within-test, all-fact, all-test}
 use Rattle.common.specs.declared.layout.Layout.{Layout}
 
 pub record LayoutSound (l : Layout) : Type 0 where
@@ -13,10 +13,10 @@ pub record LayoutSound (l : Layout) : Type 0 where
 pub layout-fact : (l : Layout) → layoutSound l ≡ true → LayoutSound l
 unfolding layoutSound
 layout-fact l h =
-    let (window, (input, (output, _))) = all-holds _ h in
+    let (window, (input, (output, _))) = all-fact _ h in
     record { window = within-fact _ 32768 window; input = within-fact _ 4096 input; output = within-fact _ 4096 output }
 
 pub layout-test : (l : Layout) → LayoutSound l → layoutSound l ≡ true
 unfolding layoutSound
 layout-test l f =
-    holds-all _ (within-test _ 32768 (f .window), (within-test _ 4096 (f .input), (within-test _ 4096 (f .output), tt)))
+    all-test _ (within-test _ 32768 (f .window), (within-test _ 4096 (f .input), (within-test _ 4096 (f .output), tt)))

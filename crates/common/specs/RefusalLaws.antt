@@ -10,25 +10,25 @@ use Rattle.common.specs.Choice.{if_then_else_}
 use Rattle.common.specs.Refusals.{Condition, unless, refusalBy}
 
 -- no condition of the list holds
-abbrev pub None : List Condition → Type 0
-None [] = Unit {0}
-None (k ∷ ks) = (k .holds ≡ false) × None ks
+abbrev pub NoneHolds : List Condition → Type 0
+NoneHolds [] = Unit {0}
+NoneHolds (k ∷ ks) = (k .holds ≡ false) × NoneHolds ks
 
 module _ {A : Type 0} (refused : ℕ → A) where
   -- then the answer is the one behind the list
-  pub none-unless : (ks : List Condition) (a : A) → None ks → unless refused ks a ≡ a
+  pub none-unless : (ks : List Condition) (a : A) → NoneHolds ks → unless refused ks a ≡ a
   unfolding unless if_then_else_
   none-unless [] a h = refl
   none-unless (k ∷ ks) a h = rw (h .0) (none-unless ks a (h .1))
 
   -- and so it is where the answer is no refusal
-  pub unless-none : (ks : List Condition) (a : A) {z : A} → ((n : ℕ) → refused n ≡ z → ⊥) → unless refused ks a ≡ z → None ks × (a ≡ z)
+  pub unless-none : (ks : List Condition) (a : A) {z : A} → ((n : ℕ) → refused n ≡ z → ⊥) → unless refused ks a ≡ z → NoneHolds ks × (a ≡ z)
   unfolding unless if_then_else_
   unless-none [] a never e = (tt, e)
   unless-none (k ∷ ks) a {z} never e = go (k .holds) refl e (unless-none ks a never)
     where
-      go : (b : Bool) → k .holds ≡ b → (if b then refused (k .number) else unless refused ks a) ≡ z → (unless refused ks a ≡ z → None ks × (a ≡ z))
-          → None (k ∷ ks) × (a ≡ z)
+      go : (b : Bool) → k .holds ≡ b → (if b then refused (k .number) else unless refused ks a) ≡ z → (unless refused ks a ≡ z → NoneHolds ks × (a ≡ z))
+          → NoneHolds (k ∷ ks) × (a ≡ z)
       go true q e further = absurd (never (k .number) e)
       go false q e further = let r = further e in ((q, r .0), r .1)
 
@@ -60,22 +60,22 @@ pub numbered-parts : (ks more : List Condition) → Numbered ks → Numbered mor
 numbered-parts [] more n m = m
 numbered-parts (k ∷ ks) more n m = (n .0, numbered-parts ks more (n .1) m)
 
-pub none-parts : (ks more : List Condition) → None (ks ++ more) → None ks × None more
+pub none-parts : (ks more : List Condition) → NoneHolds (ks ++ more) → NoneHolds ks × NoneHolds more
 none-parts [] more h = (tt, h)
 none-parts (k ∷ ks) more h = let r = none-parts ks more (h .1) in ((h .0, r .0), r .1)
 
 -- then 0 says that none of a front holds, and leaves it to the rest
-pub zero-parts : (ks more : List Condition) → Numbered ks → refusalBy (ks ++ more) ≡ 0 → None ks × (refusalBy more ≡ 0)
+pub zero-parts : (ks more : List Condition) → Numbered ks → refusalBy (ks ++ more) ≡ 0 → NoneHolds ks × (refusalBy more ≡ 0)
 unfolding refusalBy unless if_then_else_
 zero-parts [] more n e = (tt, e)
 zero-parts (k ∷ ks) more n e = go (k .holds) refl e (zero-parts ks more (n .1))
   where
     go : (b : Bool) → k .holds ≡ b → (if b then k .number else refusalBy (ks ++ more)) ≡ 0
-        → (refusalBy (ks ++ more) ≡ 0 → None ks × (refusalBy more ≡ 0)) → None (k ∷ ks) × (refusalBy more ≡ 0)
+        → (refusalBy (ks ++ more) ≡ 0 → NoneHolds ks × (refusalBy more ≡ 0)) → NoneHolds (k ∷ ks) × (refusalBy more ≡ 0)
     go true q e further = let p : 1 ≤ k .number = n .0 q in absurd (omega arith)
     go false q e further = let r = further e in ((q, r .0), r .1)
 
-pub none-holds : (ks : List Condition) → Numbered ks → refusalBy ks ≡ 0 → None ks
+pub none-holds : (ks : List Condition) → Numbered ks → refusalBy ks ≡ 0 → NoneHolds ks
 none-holds ks n e = zero-parts ks [] n (ap refusalBy (append-nil ks) ∙ e) .0
 
 -- a front that refuses nothing leaves it to the rest
@@ -92,10 +92,10 @@ refusal-parts (k ∷ ks) more n = go (k .holds) refl (refusal-parts ks more (n .
     go true q further = let p : 1 ≤ k .number = n .0 q in rw (ne-eqb (k .number) 0 (λ e. omega arith))
     go false q further = further
 
-pub stops : (ks more : List Condition) → Numbered ks → {n : ℕ} → n ≡ refusalBy ks → (n ≡ 0 → ⊥) → n ≡ refusalBy (ks ++ more)
+pub refused-by-front : (ks more : List Condition) → Numbered ks → {n : ℕ} → n ≡ refusalBy ks → (n ≡ 0 → ⊥) → n ≡ refusalBy (ks ++ more)
 unfolding if_then_else_
-stops ks more h {n} e some = sym (refusal-parts ks more h ∙ rw (← e, ne-eqb n 0 some))
+refused-by-front ks more h {n} e some = sym (refusal-parts ks more h ∙ rw (← e, ne-eqb n 0 some))
 
-pub goes : (ks more : List Condition) → Numbered ks → {n : ℕ} → n ≡ refusalBy ks → n ≡ 0 → refusalBy (ks ++ more) ≡ refusalBy more
+pub left-to-rest : (ks more : List Condition) → Numbered ks → {n : ℕ} → n ≡ refusalBy ks → n ≡ 0 → refusalBy (ks ++ more) ≡ refusalBy more
 unfolding if_then_else_
-goes ks more h {n} e none = refusal-parts ks more h ∙ rw (← e, none)
+left-to-rest ks more h {n} e none = refusal-parts ks more h ∙ rw (← e, none)

@@ -8,13 +8,14 @@ use native.Mathlib.Decide.{ℕ-discrete}
 use native.Mathlib.Omega.{arith}
 use borrow.Author.Tests.{leb-true, le-leb, eqb-true, eq-eqb, ne-eqb}
 use lib.Dec.{eqb, leb}
-use Rattle.common.specs.Tests.{within, allAfter, all, allBelow}
+use Rattle.common.specs.Ranges.{within}
+use Rattle.common.specs.Tests.{allAfter, all, allBelow}
 
 -- ---- two tests
 
-pub both : (a b : Bool) → (a && b) ≡ true → (a ≡ true) × (b ≡ true)
-both true b e = (refl, e)
-both false b e = absurd (false≢true e)
+pub and-fact : (a b : Bool) → (a && b) ≡ true → (a ≡ true) × (b ≡ true)
+and-fact true b e = (refl, e)
+and-fact false b e = absurd (false≢true e)
 
 pub and-test : (a b : Bool) → a ≡ true → b ≡ true → (a && b) ≡ true
 and-test true b e f = f
@@ -62,7 +63,7 @@ pub record Within (n most : ℕ) : Type 0 where
   pub fits : n ≤ most
 
 pub within-fact : (n most : ℕ) → within n most ≡ true → Within n most
-within-fact n most h = let p = both (leb 1 n) (leb n most) h in record { some = leb-true 1 n (p .0); fits = leb-true n most (p .1) }
+within-fact n most h = let p = and-fact (leb 1 n) (leb n most) h in record { some = leb-true 1 n (p .0); fits = leb-true n most (p .1) }
 
 pub within-test : (n most : ℕ) → Within n most → within n most ≡ true
 within-test n most w = and-test (leb 1 n) (leb n most) (le-leb 1 n (w .some)) (le-leb n most (w .fits))
@@ -70,38 +71,38 @@ within-test n most w = and-test (leb 1 n) (leb n most) (le-leb 1 n (w .some)) (l
 -- ---- a list of tests
 
 -- each of them holds
-abbrev pub Holds : List Bool → Type 0
-Holds [] = Unit {0}
-Holds (b ∷ bs) = (b ≡ true) × Holds bs
+abbrev pub AllHold : List Bool → Type 0
+AllHold [] = Unit {0}
+AllHold (b ∷ bs) = (b ≡ true) × AllHold bs
 
-after-holds : (held : Bool) (bs : List Bool) → allAfter held bs ≡ true → (held ≡ true) × Holds bs
+all-after-fact : (held : Bool) (bs : List Bool) → allAfter held bs ≡ true → (held ≡ true) × AllHold bs
 unfolding allAfter
-after-holds held [] h = (h, tt)
-after-holds held (b ∷ bs) h =
-    let r = after-holds (held && b) bs h in
-    let p = both held b (r .0) in
+all-after-fact held [] h = (h, tt)
+all-after-fact held (b ∷ bs) h =
+    let r = all-after-fact (held && b) bs h in
+    let p = and-fact held b (r .0) in
     (p .0, (p .1, r .1))
 
-holds-after : (held : Bool) (bs : List Bool) → held ≡ true → Holds bs → allAfter held bs ≡ true
+all-after-test : (held : Bool) (bs : List Bool) → held ≡ true → AllHold bs → allAfter held bs ≡ true
 unfolding allAfter
-holds-after held [] e h = e
-holds-after held (b ∷ bs) e h = holds-after (held && b) bs (and-test held b e (h .0)) (h .1)
+all-after-test held [] e h = e
+all-after-test held (b ∷ bs) e h = all-after-test (held && b) bs (and-test held b e (h .0)) (h .1)
 
-pub all-holds : (bs : List Bool) → all bs ≡ true → Holds bs
-all-holds bs h = after-holds true bs h .1
+pub all-fact : (bs : List Bool) → all bs ≡ true → AllHold bs
+all-fact bs h = all-after-fact true bs h .1
 
-pub holds-all : (bs : List Bool) → Holds bs → all bs ≡ true
-holds-all bs h = holds-after true bs refl h
+pub all-test : (bs : List Bool) → AllHold bs → all bs ≡ true
+all-test bs h = all-after-test true bs refl h
 
 -- ---- every number below another
 
 pub below-fact : (n : ℕ) (test : ℕ → Bool) → allBelow n test ≡ true → (i : ℕ) → i < n → test i ≡ true
 unfolding allBelow
 below-fact zero test h i q = absurd (omega arith)
-below-fact (suc n) test h i q = go (ℕ-discrete i n) (below-fact n test (both (allBelow n test) (test n) h .0) i)
+below-fact (suc n) test h i q = go (ℕ-discrete i n) (below-fact n test (and-fact (allBelow n test) (test n) h .0) i)
   where
     go : Dec (i ≡ n) → (i < n → test i ≡ true) → test i ≡ true
-    go (yes e) ih = ap test e ∙ both (allBelow n test) (test n) h .1
+    go (yes e) ih = ap test e ∙ and-fact (allBelow n test) (test n) h .1
     go (no e) ih = ih (omega arith)
 
 pub below-test : (n : ℕ) (test : ℕ → Bool) → ((i : ℕ) → i < n → test i ≡ true) → allBelow n test ≡ true

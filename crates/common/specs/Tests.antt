@@ -1,12 +1,7 @@
--- Definitions that must be believed: a range, and several tests as one.
-use mathlib.Core.Bool.{Bool, true, _&&_}
+-- Definitions that must be believed: several tests as one.
+use Prim.Native.Nat.{suc, zero, ℕ}
+use mathlib.Core.Bool.{Bool, _&&_, true}
 use mathlib.Core.List.{List, [], _∷_}
-use Prim.Native.Nat.{ℕ, zero, suc}
-use lib.Dec.{leb}
-
--- n is 1 to most
-abbrev pub within : ℕ → ℕ → Bool
-within n most = leb 1 n && leb n most
 
 -- every test of a list holds; they are looked at from the front, behind one that is known
 unfoldable pub allAfter : Bool → List Bool → Bool

@@ -1,6 +1,6 @@
-// How a partition is parted.
+// How a partition is divided.
 ghost use mathlib.Core.Path.{_≡_};
-ghost use Rattle.common.specs.Layouts.{bytesIn, layoutSound};
+ghost use Rattle.common.specs.Layout.{layoutSize, layoutSound};
 use crate::ranges::is_within;
 
 // The window first, then the input buffer, then the output buffer (document 01's strips), without gaps: how many bytes each has.
@@ -12,13 +12,13 @@ pub struct Layout {
 
 impl Layout {
     // The largest window and the largest capacity.
-    pub const WINDOW: u16 = 32768;
+    pub const MAX_WINDOW: u16 = 32768;
 
-    pub const CAPACITY: u16 = 4096;
+    pub const MAX_CAPACITY: u16 = 4096;
 
     // How many bytes the whole partition has.
-    pub fn bytes(self) -> usize
-        ensures { λ n. ⌜ n ≡ bytesIn self ⌝ }
+    pub fn size(self) -> usize
+        ensures { λ n. ⌜ n ≡ layoutSize self ⌝ }
     {
         self.window as usize + self.input as usize + self.output as usize
     }
@@ -27,8 +27,8 @@ impl Layout {
     pub fn is_sound(self) -> bool
         ensures { λ r. ⌜ r ≡ layoutSound self ⌝ }
     {
-        is_within(self.window as usize, Layout::WINDOW as usize)
-            & is_within(self.input as usize, Layout::CAPACITY as usize)
-            & is_within(self.output as usize, Layout::CAPACITY as usize)
+        is_within(self.window as usize, Layout::MAX_WINDOW as usize)
+            & is_within(self.input as usize, Layout::MAX_CAPACITY as usize)
+            & is_within(self.output as usize, Layout::MAX_CAPACITY as usize)
     }
 }

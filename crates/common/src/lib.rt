@@ -1,4 +1,4 @@
-// What every layer needs: addresses and places, how a partition is parted, and whether a number is in its range.
+// What every layer needs: addresses and locations, how a partition is divided, and whether a number is in its range.
 mod layout;
 mod places;
 mod ranges;

@@ -1,6 +1,6 @@
 // Ranges of numbers.
 ghost use mathlib.Core.Path.{_≡_};
-ghost use Rattle.common.specs.Tests.{within};
+ghost use Rattle.common.specs.Ranges.{within};
 
 // Whether `n` is 1 to `most`.
 pub fn is_within(n: usize, most: usize) -> bool

@@ -1,8 +1,8 @@
 -- Laws that only proofs need.
-pub mod Tests
-pub mod Rest
-pub mod Signed16
-pub mod Sums
-pub mod Words
-pub mod Registers
-pub mod Parting
+pub mod TestRules
+pub mod LastArmLaws
+pub mod Signed16Laws
+pub mod SumLaws
+pub mod WordLaws
+pub mod PackedCpuLaws
+pub mod PartitionLaws

@@ -13,25 +13,25 @@ use Rattle.cpu.specs.declared.address.Located.{Located}
 use Rattle.cpu.specs.declared.address.Located.the-variants.{At, Outside}
 
 -- k further, within the page
-abbrev pub inPage : Address → ℕ → Address
-inPage a k = record { 0 = a .0 / 8192 * 8192 + (a .0 % 8192 + k) % 8192 }
+abbrev pub addInPage : Address → ℕ → Address
+addInPage a k = record { 0 = a .0 / 8192 * 8192 + (a .0 % 8192 + k) % 8192 }
 
 -- k further, modulo 32,768
-abbrev pub onward : Address → ℕ → Address
-onward a k = record { 0 = (a .0 + k) % 32768 }
+abbrev pub addWrapping : Address → ℕ → Address
+addWrapping a k = record { 0 = (a .0 + k) % 32768 }
 
 -- the window's byte at an address; from the window's size on there is none
 unfoldable pub fetchOf : List ℕ → Address → Fetched
 fetchOf window a = if ltb (a .0) (length window) then Byte (getD window (a .0) 0) else NoByte
 
 -- what follows if there is a byte, or an address, and what if there is none
-unfoldable pub withByte : {A : Type 0} → Fetched → A → (ℕ → A) → A
-withByte (Byte b) stop go = go b
-withByte NoByte stop go = stop
+unfoldable pub ifFetched : {A : Type 0} → Fetched → A → (ℕ → A) → A
+ifFetched (Byte b) stop go = go b
+ifFetched NoByte stop go = stop
 
-unfoldable pub withAddress : {A : Type 0} → Located → A → (Address → A) → A
-withAddress (At a) stop go = go a
-withAddress Outside stop go = stop
+unfoldable pub ifLocated : {A : Type 0} → Located → A → (Address → A) → A
+ifLocated (At a) stop go = go a
+ifLocated Outside stop go = stop
 
 -- fifteen bits of two bytes, high first: the top bit is ignored
 abbrev pub addressOf : ℕ → ℕ → Address
@@ -40,13 +40,13 @@ addressOf high low = record { 0 = (high * 256 + low) % 32768 }
 -- a pointer is two bytes, the second within the first one's page
 unfoldable pub pointerOf : List ℕ → Address → Located
 pointerOf window a =
-    withByte (fetchOf window a) Outside (λ high.
-    withByte (fetchOf window (inPage a 1)) Outside (λ low.
+    ifFetched (fetchOf window a) Outside (λ high.
+    ifFetched (fetchOf window (addInPage a 1)) Outside (λ low.
     At (addressOf high low)))
 
 -- the address itself, or where the pointer there leads if the indirect bit is 1
-unfoldable pub throughOf : List ℕ → ℕ → Address → Located
-throughOf window indirect a = if eqb indirect 0 then At a else pointerOf window a
+unfoldable pub resolveOf : List ℕ → ℕ → Address → Located
+resolveOf window indirect a = if eqb indirect 0 then At a else pointerOf window a
 
 -- the low seven bits of a relative byte as a signed displacement, -64 to 63
 unfoldable pub displacementOf : ℕ → ℤ
@@ -54,8 +54,8 @@ displacementOf b = if ltb (b % 128) 64 then pos (b % 128) else negsuc (127 - b %
 
 -- a displacement added, modulo 8,192 in the page
 unfoldable pub displacedOf : Address → ℤ → Address
-displacedOf a (pos d) = inPage a d
-displacedOf a (negsuc d) = inPage a (8191 - d)
+displacedOf a (pos d) = addInPage a d
+displacedOf a (negsuc d) = addInPage a (8191 - d)
 
 -- the address that a relative byte names, from the next instruction
 unfoldable pub relativeOf : Address → ℕ → Address

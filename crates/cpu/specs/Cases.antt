@@ -2,18 +2,11 @@
 use mathlib.Core.List.{List, [], _∷_}
 use mathlib.Core.Path.{_≡_, refl}
 use Prim.Native.Nat.{ℕ}
-use Rattle.cpu.specs.Address.{fetchOf, withByte, withAddress, pointerOf, throughOf, displacementOf, displacedOf, relativeOf}
-use Rattle.cpu.specs.Alu.{conditionOf, overflowOf, addedOf, carryInOf, loadedOf, signedOf, compareOf, comparedOf, operateOf, rotateLeftOf, digitOf, decimalOf}
-use Rattle.cpu.specs.Branch.{meetsOf, countedOf, takenOf, callsOf, jumpedOf, branchedOf, targetOf, branchOf}
-use Rattle.common.specs.Choice.{if_then_else_}
-use Rattle.cpu.specs.Decode.{fourOf, firstOf, lastOf, decodeOf}
-use Rattle.cpu.specs.Machine.{Machine, restingState, withStatus, effectOf, machineStep}
-use Rattle.cpu.specs.Operand.{immediateOperandOf, operandOf, withOperandOf}
-use Rattle.cpu.specs.Result.{advancedOf, appliedOf, changedOf, operatedOf}
-use Rattle.cpu.specs.State.{freshCpu, counterOf, psuOf, pslOf, registerIndex, registerOf, returnOf, withCounter, withRegister, withPsu, withPsl, withReturn, calledOf}
-use Rattle.cpu.specs.Instruction.{executeOf, stepOf}
-use Rattle.cpu.specs.Port.{readOf}
-use Rattle.cpu.specs.declared.state.Cpu.{Cpu}
+use Rattle.cpu.specs.Machine.{Machine, machineStep}
+use Rattle.cpu.specs.State.{restingState, withStatus}
+use Rattle.cpu.specs.Cpu.{freshCpu, withRegister, withPsu, withPsl}
+use Rattle.cpu.specs.declared.cpu.Cpu.{Cpu}
+use Rattle.cpu.specs.StepDefinitions.{step-definitions}
 
 -- counter, R0, PSU and PSL as given; the other registers and the return addresses zero
 abbrev pub cpuWith : ℕ → ℕ → ℕ → ℕ → Cpu
@@ -25,22 +18,22 @@ machineWith status cpu window =
     record { state = withStatus status (restingState cpu); window = window; input = 0 ∷ []; output = 0 ∷ [] }
 
 -- one step of a running machine leaves it running, with the window as it was
-abbrev Steps : Cpu → List ℕ → Cpu → Type 0
-Steps before window after = machineStep (machineWith 1 before window) ≡ machineWith 1 after window
+abbrev StepsTo : Cpu → List ℕ → Cpu → Type 0
+StepsTo before window after = machineStep (machineWith 1 before window) ≡ machineWith 1 after window
 
-pub record Worked : Type 0 where
-  pub k1 : Steps (cpuWith 0 0x7F 0 0x00) (0x84 ∷ 0x01 ∷ []) (cpuWith 2 0x80 0 0xA4)
-  pub k2 : Steps (cpuWith 0 0xFF 0 0x00) (0x84 ∷ 0x01 ∷ []) (cpuWith 2 0x00 0 0x21)
-  pub k3 : Steps (cpuWith 0 0x00 0 0x00) (0xA4 ∷ 0x01 ∷ []) (cpuWith 2 0xFF 0 0x80)
-  pub k4 : Steps (cpuWith 0 0x05 0 0x00) (0xA4 ∷ 0x05 ∷ []) (cpuWith 2 0x00 0 0x21)
-  pub k5 : Steps (cpuWith 0 0x80 0 0x00) (0xE4 ∷ 0x01 ∷ []) (cpuWith 2 0x80 0 0x80)
-  pub k5-unsigned : Steps (cpuWith 0 0x80 0 0x02) (0xE4 ∷ 0x01 ∷ []) (cpuWith 2 0x80 0 0x42)
-  pub k6 : Steps (cpuWith 0 0xC2 0 0x20) (0x94 ∷ []) (cpuWith 1 0x62 0 0x60)
-  pub k7 : Steps (cpuWith 0 0 0 0) (0x1B ∷ 0x40 ∷ []) (cpuWith 0x1FC2 0 0 0)
-  pub k8 : Steps (cpuWith 0 0x80 0 0x00) (0xD0 ∷ []) (cpuWith 1 0x01 0 0x40)
+pub record WorkedSteps : Type 0 where
+  pub k1 : StepsTo (cpuWith 0 0x7F 0 0x00) (0x84 ∷ 0x01 ∷ []) (cpuWith 2 0x80 0 0xA4)
+  pub k2 : StepsTo (cpuWith 0 0xFF 0 0x00) (0x84 ∷ 0x01 ∷ []) (cpuWith 2 0x00 0 0x21)
+  pub k3 : StepsTo (cpuWith 0 0x00 0 0x00) (0xA4 ∷ 0x01 ∷ []) (cpuWith 2 0xFF 0 0x80)
+  pub k4 : StepsTo (cpuWith 0 0x05 0 0x00) (0xA4 ∷ 0x05 ∷ []) (cpuWith 2 0x00 0 0x21)
+  pub k5 : StepsTo (cpuWith 0 0x80 0 0x00) (0xE4 ∷ 0x01 ∷ []) (cpuWith 2 0x80 0 0x80)
+  pub k5-unsigned : StepsTo (cpuWith 0 0x80 0 0x02) (0xE4 ∷ 0x01 ∷ []) (cpuWith 2 0x80 0 0x42)
+  pub k6 : StepsTo (cpuWith 0 0xC2 0 0x20) (0x94 ∷ []) (cpuWith 1 0x62 0 0x60)
+  pub k7 : StepsTo (cpuWith 0 0 0 0) (0x1B ∷ 0x40 ∷ []) (cpuWith 0x1FC2 0 0 0)
+  pub k8 : StepsTo (cpuWith 0 0x80 0 0x00) (0xD0 ∷ []) (cpuWith 1 0x01 0 0x40)
   pub k9 : machineStep (machineWith 1 (cpuWith 0 0 7 0) (0x3F ∷ 0x00 ∷ 0x10 ∷ [])) .state .cpu .psu ≡ 0
   pub k12 : machineStep (machineWith 1 (cpuWith 0 5 0 0) (0x70 ∷ [])) ≡ machineWith 3 (cpuWith 0 5 0 0) (0x70 ∷ [])
 
-pub worked : Worked
-unfolding freshCpu fetchOf withByte withAddress pointerOf throughOf displacementOf displacedOf relativeOf conditionOf overflowOf addedOf carryInOf loadedOf signedOf compareOf comparedOf operateOf rotateLeftOf digitOf decimalOf meetsOf countedOf takenOf callsOf jumpedOf branchedOf targetOf branchOf if_then_else_ fourOf firstOf lastOf decodeOf effectOf machineStep immediateOperandOf operandOf withOperandOf advancedOf appliedOf changedOf operatedOf counterOf psuOf pslOf registerIndex registerOf returnOf withCounter withRegister withPsu withPsl withReturn calledOf readOf executeOf stepOf
-worked = record { k1 = refl; k2 = refl; k3 = refl; k4 = refl; k5 = refl; k5-unsigned = refl; k6 = refl; k7 = refl; k8 = refl; k9 = refl; k12 = refl }
+pub worked-steps : WorkedSteps
+unfolding step-definitions
+worked-steps = record { k1 = refl; k2 = refl; k3 = refl; k4 = refl; k5 = refl; k5-unsigned = refl; k6 = refl; k7 = refl; k8 = refl; k9 = refl; k12 = refl }

@@ -1,61 +1,61 @@
 -- Laws that the checker has shown: an instruction has one to three bytes.
 use native.Mathlib.Omega.{arith}
 use Rattle.common.specs.TestLaws.{Within}
-use Rattle.cpu.specs.Decode.{modeLength, reachLength, lengthOf}
+use Rattle.cpu.specs.Decode.{modeLength, branchLength, instructionLength}
 use Rattle.cpu.specs.declared.decode.Instruction.{Instruction}
 use Rattle.cpu.specs.declared.decode.Instruction.the-variants.{Unknown, UnusedPort, ExtendedPort, Operate, Strz, Nop, Halt, Spsu, Spsl, Lpsu, Lpsl, Cpsu, Cpsl, Ppsu, Ppsl, Tpsu, Tpsl, Tmi, Dar, Rrr, Rrl, Redd, Wrtd, Retc, Rete, Branch, Zbrr, Zbsr, Bxa, Bsxa}
 use Rattle.cpu.specs.declared.decode.Mode.{Mode}
 use Rattle.cpu.specs.declared.decode.Mode.the-variants.{Register, Immediate, Relative, Absolute}
-use Rattle.cpu.specs.declared.decode.Reach.{Reach}
-use Rattle.cpu.specs.declared.decode.Reach.the-variants.{Near, Far}
+use Rattle.cpu.specs.declared.decode.BranchMode.{BranchMode}
+use Rattle.cpu.specs.declared.decode.BranchMode.the-variants as branch
 
-one : Within 1 3
-one = record { some = omega arith; fits = omega arith }
+one-byte : Within 1 3
+one-byte = record { some = omega arith; fits = omega arith }
 
-two : Within 2 3
-two = record { some = omega arith; fits = omega arith }
+two-bytes : Within 2 3
+two-bytes = record { some = omega arith; fits = omega arith }
 
-three : Within 3 3
-three = record { some = omega arith; fits = omega arith }
+three-bytes : Within 3 3
+three-bytes = record { some = omega arith; fits = omega arith }
 
 mode-within : (mode : Mode) → Within (modeLength mode) 3
-mode-within Register = one
-mode-within Immediate = two
-mode-within Relative = two
-mode-within Absolute = three
+mode-within Register = one-byte
+mode-within Immediate = two-bytes
+mode-within Relative = two-bytes
+mode-within Absolute = three-bytes
 
-reach-within : (reach : Reach) → Within (reachLength reach) 3
-reach-within Near = two
-reach-within Far = three
+branch-within : (mode : BranchMode) → Within (branchLength mode) 3
+branch-within branch.Relative = two-bytes
+branch-within branch.Absolute = three-bytes
 
-pub length-within : (i : Instruction) → Within (lengthOf i) 3
-length-within Unknown = one
-length-within UnusedPort = one
-length-within ExtendedPort = two
-length-within (Operate mode usage) = mode-within mode
-length-within Strz = one
-length-within Nop = one
-length-within Halt = one
-length-within Spsu = one
-length-within Spsl = one
-length-within Lpsu = one
-length-within Lpsl = one
-length-within Cpsu = two
-length-within Cpsl = two
-length-within Ppsu = two
-length-within Ppsl = two
-length-within Tpsu = two
-length-within Tpsl = two
-length-within Tmi = two
-length-within Dar = one
-length-within Rrr = one
-length-within Rrl = one
-length-within Redd = one
-length-within Wrtd = one
-length-within Retc = one
-length-within Rete = one
-length-within (Branch reach kind) = reach-within reach
-length-within Zbrr = two
-length-within Zbsr = two
-length-within Bxa = three
-length-within Bsxa = three
+pub length-within : (i : Instruction) → Within (instructionLength i) 3
+length-within Unknown = one-byte
+length-within UnusedPort = one-byte
+length-within ExtendedPort = two-bytes
+length-within (Operate mode access) = mode-within mode
+length-within Strz = one-byte
+length-within Nop = one-byte
+length-within Halt = one-byte
+length-within Spsu = one-byte
+length-within Spsl = one-byte
+length-within Lpsu = one-byte
+length-within Lpsl = one-byte
+length-within Cpsu = two-bytes
+length-within Cpsl = two-bytes
+length-within Ppsu = two-bytes
+length-within Ppsl = two-bytes
+length-within Tpsu = two-bytes
+length-within Tpsl = two-bytes
+length-within Tmi = two-bytes
+length-within Dar = one-byte
+length-within Rrr = one-byte
+length-within Rrl = one-byte
+length-within Redd = one-byte
+length-within Wrtd = one-byte
+length-within Retc = one-byte
+length-within Rete = one-byte
+length-within (Branch mode kind) = branch-within mode
+length-within Zbrr = two-bytes
+length-within Zbsr = two-bytes
+length-within Bxa = three-bytes
+length-within Bsxa = three-bytes

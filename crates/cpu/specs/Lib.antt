@@ -1,26 +1,28 @@
 -- Definitions that must be believed, in reading order.
-pub mod State
+pub mod Cpu
 pub mod Alu
 pub mod Address
 pub mod Decode
 pub mod Result
 pub mod Operand
 pub mod Branch
-pub mod Status
+pub mod Psw
 pub mod Port
 pub mod Instruction
+pub mod State
 pub mod Machine
-pub mod Written
+pub mod WrtdSteps
 -- Laws that the checker has shown, for the layers above.
+pub mod StepDefinitions
 pub mod Cases
-pub mod Times
+pub mod RestLaws
 pub mod DecodeLaws
-pub mod Ways
-pub mod Changes
-pub mod Invariants
+pub mod ChoiceLaws
+pub mod InvariantLaws
+pub mod CpuInvariantLaws
 pub mod StepLaws
 pub mod MachineLaws
-pub mod WrittenLaws
+pub mod WrtdStepLaws
 -- What private code is held to. No definition above mentions these two.
-pub mod Core
+pub mod PackedCpu
 pub mod Partition

@@ -6,13 +6,14 @@ use native.Mathlib.Omega.{arith}
 use borrow.Author.Tests.{ltb-true, ltb-false, leb-true, leb-false}
 use lib.ListN.{length, length-set}
 use Rattle.cpu.specs.Instruction.{stepOf}
-use Rattle.cpu.specs.Machine.{Machine, withStatus, withState, portsOf, effectOf, afterStep, machineStep}
+use Rattle.cpu.specs.Machine.{Machine, withState, portsOf, withEffect, afterStep, machineStep}
+use Rattle.cpu.specs.State.{withStatus}
 use Rattle.common.specs.Repetition.{times}
-use Rattle.cpu.specs.Result.{Stepped, lastStatus}
-use Rattle.cpu.specs.Changes.{Keeps}
-use Rattle.cpu.specs.Invariants.{CpuSound, keeps-sound, CpuShaped, keeps-shaped}
+use Rattle.cpu.specs.Result.{StepResult, lastStatus}
+use Rattle.cpu.specs.InvariantLaws.{KeepsInvariants}
+use Rattle.cpu.specs.CpuInvariantLaws.{CpuSound, keeps-sound, CpuShaped, keeps-shaped}
 use Rattle.cpu.specs.StepLaws.{Ending, goes, halts, stores, takes, puts, wants, fills, stops, step-ends}
-use Rattle.cpu.specs.Ways.{if-all}
+use Rattle.cpu.specs.ChoiceLaws.{if-all}
 
 -- a machine is changed into one that has its sizes
 pub record SameSizes (m n : Machine) : Type 0 where
@@ -36,16 +37,16 @@ abbrev pub atStatus : ℕ → Machine → Machine
 atStatus n m = withState (withStatus n (m .state)) m
 
 -- what a step that is made leaves
-record Stepping (m n : Machine) : Type 1 where
+record StepLeaves (m n : Machine) : Type 1 where
   sizes : SameSizes m n
-  keeps : Keeps (m .state .cpu) (n .state .cpu)
+  keeps : KeepsInvariants (m .state .cpu) (n .state .cpu)
   sound : MachineSound m → MachineSound n
   undone : 3 ≤ n .state .status → n ≡ atStatus (n .state .status) m
 
 module _ (m : Machine) where
   -- a step that is carried out ends at status 1 or 2
-  carried : (n : Machine) → SameSizes m n → n .state .filled ≡ m .state .filled → 1 ≤ n .state .status → n .state .status < 3 → Keeps (m .state .cpu) (n .state .cpu) → (m .state .read ≤ m .state .filled → n .state .read ≤ m .state .filled) → (m .state .written ≤ length (m .output) → n .state .written ≤ length (m .output)) → Stepping m n
-  carried n z f l h k r w =
+  carried-out : (n : Machine) → SameSizes m n → n .state .filled ≡ m .state .filled → 1 ≤ n .state .status → n .state .status < 3 → KeepsInvariants (m .state .cpu) (n .state .cpu) → (m .state .read ≤ m .state .filled → n .state .read ≤ m .state .filled) → (m .state .written ≤ length (m .output) → n .state .written ≤ length (m .output)) → StepLeaves m n
+  carried-out n z f l h k r w =
       let i = z .input in
       let o = z .output in
       record {
@@ -60,8 +61,8 @@ module _ (m : Machine) where
       }
 
   -- one that is undone leaves all but the status
-  still : (n : ℕ) → 1 ≤ n → n ≤ lastStatus → (n ≡ 3 → m .state .filled ≤ m .state .read) → (n ≡ 4 → length (m .output) ≤ m .state .written) → Stepping m (atStatus n m)
-  still n l h w f =
+  left-undone : (n : ℕ) → 1 ≤ n → n ≤ lastStatus → (n ≡ 3 → m .state .filled ≤ m .state .read) → (n ≡ 4 → length (m .output) ≤ m .state .written) → StepLeaves m (atStatus n m)
+  left-undone n l h w f =
       record {
         sizes = record { window = refl; input = refl; output = refl };
         keeps = λ i s. s;
@@ -81,42 +82,42 @@ module _ (m : Machine) where
         undone = λ e. refl;
       }
 
-  ending-steps : {wrtd : Bool} {s : Stepped} → Ending (m .state .cpu) (m .window) (portsOf m) wrtd s → Stepping m (afterStep s m)
-  unfolding effectOf
-  ending-steps (goes next k) = carried _ (record { window = refl; input = refl; output = refl }) refl (omega arith) (omega arith) k (λ r. r) (λ w. w)
-  ending-steps (halts next k) = carried _ (record { window = refl; input = refl; output = refl }) refl (omega arith) (omega arith) k (λ r. r) (λ w. w)
-  ending-steps (stores next a v k h) =
-      carried _ (record { window = length-set (m .window) (a .0) v; input = refl; output = refl }) refl (omega arith) (omega arith) k (λ r. r) (λ w. w)
-  ending-steps (takes next k h) = carried _ (record { window = refl; input = refl; output = refl }) refl (omega arith) (omega arith) k (λ r. let x : m .state .read < m .state .filled = ltb-true _ _ h in omega arith) (λ w. w)
-  ending-steps (puts next v k h) =
-      carried _ (record { window = refl; input = refl; output = length-set (m .output) (m .state .written) v }) refl (omega arith) (omega arith) k (λ r. r) (λ w.
+  ending-leaves : {wrtd : Bool} {s : StepResult} → Ending (m .state .cpu) (m .window) (portsOf m) wrtd s → StepLeaves m (afterStep s m)
+  unfolding withEffect
+  ending-leaves (goes next k) = carried-out _ (record { window = refl; input = refl; output = refl }) refl (omega arith) (omega arith) k (λ r. r) (λ w. w)
+  ending-leaves (halts next k) = carried-out _ (record { window = refl; input = refl; output = refl }) refl (omega arith) (omega arith) k (λ r. r) (λ w. w)
+  ending-leaves (stores next a v k h) =
+      carried-out _ (record { window = length-set (m .window) (a .0) v; input = refl; output = refl }) refl (omega arith) (omega arith) k (λ r. r) (λ w. w)
+  ending-leaves (takes next k h) = carried-out _ (record { window = refl; input = refl; output = refl }) refl (omega arith) (omega arith) k (λ r. let x : m .state .read < m .state .filled = ltb-true _ _ h in omega arith) (λ w. w)
+  ending-leaves (puts next v k h) =
+      carried-out _ (record { window = refl; input = refl; output = length-set (m .output) (m .state .written) v }) refl (omega arith) (omega arith) k (λ r. r) (λ w.
       let x : m .state .written < length (m .output) = leb-false _ _ h in omega arith)
-  ending-steps (wants h) = still 3 (omega arith) (omega arith) (λ e. ltb-false _ _ h) (λ e. absurd (omega arith))
-  ending-steps (fills h) = still 4 (omega arith) (omega arith) (λ e. absurd (omega arith)) (λ e. leb-true _ _ h)
-  ending-steps (stops n l h) = still n (omega arith) h (λ e. absurd (omega arith)) (λ e. absurd (omega arith))
+  ending-leaves (wants h) = left-undone 3 (omega arith) (omega arith) (λ e. ltb-false _ _ h) (λ e. absurd (omega arith))
+  ending-leaves (fills h) = left-undone 4 (omega arith) (omega arith) (λ e. absurd (omega arith)) (λ e. leb-true _ _ h)
+  ending-leaves (stops n l h) = left-undone n (omega arith) h (λ e. absurd (omega arith)) (λ e. absurd (omega arith))
 
-  made : Stepping m (afterStep (stepOf (m .state .cpu) (m .window) (portsOf m)) m)
-  made = ending-steps (step-ends (m .state .cpu) (m .window) (portsOf m))
+  step-leaves : StepLeaves m (afterStep (stepOf (m .state .cpu) (m .window) (portsOf m)) m)
+  step-leaves = ending-leaves (step-ends (m .state .cpu) (m .window) (portsOf m))
 
   -- a step keeps the lengths of window and buffers
   pub step-sizes : SameSizes m (machineStep m)
   unfolding machineStep
-  step-sizes = if-all (SameSizes m) (λ e. made .sizes) (λ e. record { window = refl; input = refl; output = refl })
+  step-sizes = if-all (SameSizes m) (λ e. step-leaves .sizes) (λ e. record { window = refl; input = refl; output = refl })
 
   -- a step keeps every invariant of the state
-  pub step-keeps : Keeps (m .state .cpu) (machineStep m .state .cpu)
+  pub step-keeps : KeepsInvariants (m .state .cpu) (machineStep m .state .cpu)
   unfolding machineStep
-  step-keeps i s = if-all (λ (n : Machine). i .OfCpu (n .state .cpu)) (λ e. made .keeps i s) (λ e. s)
+  step-keeps i s = if-all (λ (n : Machine). i .OfCpu (n .state .cpu)) (λ e. step-leaves .keeps i s) (λ e. s)
 
   -- a step keeps a sound machine sound
   pub step-sound : MachineSound m → MachineSound (machineStep m)
   unfolding machineStep
-  step-sound s = if-all MachineSound (λ e. made .sound s) (λ e. s)
+  step-sound s = if-all MachineSound (λ e. step-leaves .sound s) (λ e. s)
 
   -- a step that ends at a status from 3 on changes nothing but the status
   pub step-undone : 3 ≤ machineStep m .state .status → machineStep m ≡ atStatus (machineStep m .state .status) m
   unfolding machineStep
-  step-undone = if-all (λ (n : Machine). 3 ≤ n .state .status → n ≡ atStatus (n .state .status) m) (λ e. made .undone) (λ e h. refl)
+  step-undone = if-all (λ (n : Machine). 3 ≤ n .state .status → n ≡ atStatus (n .state .status) m) (λ e. step-leaves .undone) (λ e h. refl)
 
 -- the same of many steps
 pub times-sizes : (n : ℕ) (m : Machine) → SameSizes m (times n machineStep m)
@@ -132,7 +133,7 @@ unfolding times
 times-sound zero m s = s
 times-sound (suc n) m s = step-sound (times n machineStep m) (times-sound n m s)
 
-pub times-keeps : (n : ℕ) (m : Machine) → Keeps (m .state .cpu) (times n machineStep m .state .cpu)
+pub times-keeps : (n : ℕ) (m : Machine) → KeepsInvariants (m .state .cpu) (times n machineStep m .state .cpu)
 unfolding times
 times-keeps zero m i s = s
 times-keeps (suc n) m i s = step-keeps (times n machineStep m) i (times-keeps n m i s)

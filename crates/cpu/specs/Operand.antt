@@ -2,18 +2,18 @@
 use mathlib.Core.List.{List}
 use Prim.Native.Nat.{ℕ, _+_, _*_, _/_, _%_}
 use lib.Dec.{eqb}
-use Rattle.cpu.specs.Address.{inPage, onward, fetchOf, withByte, withAddress, pointerOf, throughOf, relativeOf}
+use Rattle.cpu.specs.Address.{addInPage, addWrapping, fetchOf, ifFetched, ifLocated, pointerOf, resolveOf, relativeOf}
 use Rattle.common.specs.Choice.{if_then_else_}
-use Rattle.cpu.specs.Result.{Stepped, Store, endedOf, stoppedOf, afterOf, advancedOf, operatedOf}
-use Rattle.cpu.specs.State.{counterOf, registerOf, withRegister}
+use Rattle.cpu.specs.Result.{StepResult, Store, endedOf, stoppedOf, addressAfter, advancedOf, operatedOf}
+use Rattle.cpu.specs.Cpu.{counterOf, registerOf, withRegister}
 use Rattle.common.specs.declared.places.Address.{Address}
 use Rattle.cpu.specs.declared.address.Located.{Located}
 use Rattle.cpu.specs.declared.address.Located.the-variants.{At, Outside}
 use Rattle.cpu.specs.declared.decode.Mode.{Mode}
 use Rattle.cpu.specs.declared.decode.Mode.the-variants.{Register, Immediate, Relative, Absolute}
-use Rattle.cpu.specs.declared.decode.Use.{Use}
-use Rattle.cpu.specs.declared.decode.Use.the-variants.{Read, Write}
-use Rattle.cpu.specs.declared.state.Cpu.{Cpu}
+use Rattle.cpu.specs.declared.decode.Access.{Access}
+use Rattle.cpu.specs.declared.decode.Access.the-variants.{Read, Write}
+use Rattle.cpu.specs.declared.cpu.Cpu.{Cpu}
 
 -- an operand: its byte, its address, the register that it is used with, and the state after the instruction's own bytes:
 -- the index stepped, the counter at the next instruction. An operand in a register or in the instruction has no address:
@@ -22,8 +22,8 @@ pub data Operand : Type 0 where
   Found : ℕ → Address → ℕ → Cpu → Operand
   NoOperand : Operand
 
-abbrev pub nowhere : Address
-nowhere = record { 0 = 0 }
+abbrev pub noAddress : Address
+noAddress = record { 0 = 0 }
 
 -- the index by the two control bits: none, one added first, one subtracted first, plain; modulo 256
 unfoldable pub indexOf : ℕ → ℕ → ℕ
@@ -35,8 +35,8 @@ indexOf control v =
 -- the index is added within the page; after an indirect pointer it is added modulo 32,768
 unfoldable pub indexedAddressOf : List ℕ → ℕ → Address → ℕ → Located
 indexedAddressOf window indirect a i =
-    if eqb indirect 0 then At (inPage a i)
-    else withAddress (pointerOf window a) Outside (λ p. At (onward p i))
+    if eqb indirect 0 then At (addInPage a i)
+    else ifLocated (pointerOf window a) Outside (λ p. At (addWrapping p i))
 
 -- thirteen bits of the instruction in its own page
 abbrev pub dataAddressOf : Cpu → ℕ → ℕ → Address
@@ -52,28 +52,28 @@ steppedIndexOf cpu r control i = if eqb control 0 then cpu else withRegister cpu
 
 -- the operand of an instruction of k bytes, mode by mode. In a register: the one that the code names, used with R0
 unfoldable pub registerOperandOf : Cpu → ℕ → ℕ → Operand
-registerOperandOf cpu k r = Found (registerOf cpu r) nowhere 0 (advancedOf cpu k)
+registerOperandOf cpu k r = Found (registerOf cpu r) noAddress 0 (advancedOf cpu k)
 
 -- immediate: the second byte
 unfoldable pub immediateOperandOf : Cpu → ℕ → List ℕ → ℕ → Operand
 immediateOperandOf cpu k window r =
-    withByte (fetchOf window (afterOf cpu 1)) NoOperand (λ b. Found b nowhere r (advancedOf cpu k))
+    ifFetched (fetchOf window (addressAfter cpu 1)) NoOperand (λ b. Found b noAddress r (advancedOf cpu k))
 
 -- relative, by the second byte: bit 7 for indirect, and a displacement from the next instruction
 unfoldable pub relativeOperandOf : Cpu → ℕ → List ℕ → ℕ → Operand
 relativeOperandOf cpu k window r =
-    withByte (fetchOf window (afterOf cpu 1)) NoOperand (λ second.
-    withAddress (throughOf window (second / 128) (relativeOf (afterOf cpu k) second)) NoOperand (λ a.
-    withByte (fetchOf window a) NoOperand (λ b.
+    ifFetched (fetchOf window (addressAfter cpu 1)) NoOperand (λ second.
+    ifLocated (resolveOf window (second / 128) (relativeOf (addressAfter cpu k) second)) NoOperand (λ a.
+    ifFetched (fetchOf window a) NoOperand (λ b.
     Found b a r (advancedOf cpu k))))
 
 -- absolute, by the second and the third byte: bit 7 for indirect, bits 6 and 5 for indexing, and thirteen bits of address
 unfoldable pub absoluteOperandOf : Cpu → ℕ → List ℕ → ℕ → Operand
 absoluteOperandOf cpu k window r =
-    withByte (fetchOf window (afterOf cpu 1)) NoOperand (λ high.
-    withByte (fetchOf window (afterOf cpu 2)) NoOperand (λ low.
-    withAddress (indexedAddressOf window (high / 128) (dataAddressOf cpu high low) (indexOf (high / 32 % 4) (registerOf cpu r))) NoOperand (λ a.
-    withByte (fetchOf window a) NoOperand (λ b.
+    ifFetched (fetchOf window (addressAfter cpu 1)) NoOperand (λ high.
+    ifFetched (fetchOf window (addressAfter cpu 2)) NoOperand (λ low.
+    ifLocated (indexedAddressOf window (high / 128) (dataAddressOf cpu high low) (indexOf (high / 32 % 4) (registerOf cpu r))) NoOperand (λ a.
+    ifFetched (fetchOf window a) NoOperand (λ b.
     Found b a (dataRegisterOf (high / 32 % 4) r) (advancedOf (steppedIndexOf cpu r (high / 32 % 4) (indexOf (high / 32 % 4) (registerOf cpu r))) k)))))
 
 unfoldable pub operandOf : Mode → Cpu → ℕ → List ℕ → ℕ → Operand
@@ -82,16 +82,16 @@ operandOf Immediate cpu k window r = immediateOperandOf cpu k window r
 operandOf Relative cpu k window r = relativeOperandOf cpu k window r
 operandOf Absolute cpu k window r = absoluteOperandOf cpu k window r
 
-abbrev pub withOperand : {A : Type 0} → Operand → A → (ℕ → Address → ℕ → Cpu → A) → A
-withOperand (Found b a d cpu) stop go = go b a d cpu
-withOperand NoOperand stop go = stop
+abbrev pub ifOperand : {A : Type 0} → Operand → A → (ℕ → Address → ℕ → Cpu → A) → A
+ifOperand (Found b a d cpu) stop go = go b a d cpu
+ifOperand NoOperand stop go = stop
 
 -- the operand is worked on, or the register stored over it
-abbrev pub usedOf : Use → Cpu → ℕ → ℕ → Address → Stepped
-usedOf (Read f) cpu d b a = operatedOf f cpu d b
-usedOf Write cpu d b a = endedOf cpu 1 (Store a (registerOf cpu d))
+abbrev pub accessOf : Access → Cpu → ℕ → ℕ → Address → StepResult
+accessOf (Read f) cpu d b a = operatedOf f cpu d b
+accessOf Write cpu d b a = endedOf cpu 1 (Store a (registerOf cpu d))
 
 -- an operand that is outside the window anywhere stops the instruction with status 6
-unfoldable pub withOperandOf : Mode → Use → Cpu → ℕ → List ℕ → ℕ → Stepped
-withOperandOf mode usage cpu k window r =
-    withOperand (operandOf mode cpu k window r) (stoppedOf cpu 6) (λ b a d after. usedOf usage after d b a)
+unfoldable pub operateOnOperandOf : Mode → Access → Cpu → ℕ → List ℕ → ℕ → StepResult
+operateOnOperandOf mode access cpu k window r =
+    ifOperand (operandOf mode cpu k window r) (stoppedOf cpu 6) (λ b a d after. accessOf access after d b a)

@@ -6,67 +6,68 @@ use Prim.Native.Nat.{ℕ, _+_, _%_, _-_, _<_, _≤_, min}
 use lib.Dec.{ltb, leb}
 use lib.ListN.{set, take, drop}
 use Rattle.common.specs.Choice.{if_then_else_}
-use Rattle.cpu.specs.Machine.{Machine, withCpu, withStatus, withFilled, withRead, withWritten}
-use Rattle.cpu.specs.declared.machine.State.{State}
+use Rattle.cpu.specs.Machine.{Machine}
+use Rattle.cpu.specs.State.{withCpu, withStatus, withFilled, withRead, withWritten}
+use Rattle.cpu.specs.declared.state.State.{State}
 use Rattle.cpu.specs.declared.partition.Bounds.{Bounds}
 use Rattle.cpu.specs.declared.partition.Positions.{Positions}
-use Rattle.cpu.specs.declared.result.Offer.{Offer}
-use Rattle.cpu.specs.declared.result.Pending.{Pending}
-use Rattle.cpu.specs.declared.result.Pending.the-variants.{Nothing, Store, Take, Put}
-use Rattle.cpu.specs.declared.state.Cpu.{Cpu}
+use Rattle.cpu.specs.declared.result.PortView.{PortView}
+use Rattle.cpu.specs.declared.result.PackedEffect.{PackedEffect}
+use Rattle.cpu.specs.declared.result.PackedEffect.the-variants.{Nothing, Store, Take, Put}
+use Rattle.cpu.specs.declared.cpu.Cpu.{Cpu}
 
 -- where the parts of n bytes start by their sizes, and where they end, cut at n
 unfoldable pub boundsOf : ℕ → ℕ → ℕ → ℕ → ℕ → Bounds
 boundsOf w i o filled n =
     record {
-      first = min w n;
-      input = w;
-      second = min (w + i) n;
-      output = w + i;
-      third = min (w + i + o) n;
+      «window_end» = min w n;
+      «input_start» = w;
+      «input_end» = min (w + i) n;
+      «output_start» = w + i;
+      «output_end» = min (w + i + o) n;
       end = w + i + o;
       filled = filled;
     }
 
 -- what every answer of boundsOf is
-pub record Parts (b : Bounds) (n : ℕ) : Type 0 where
-  pub first : b .first ≡ min (b .input) n
-  pub second : b .second ≡ min (b .output) n
-  pub third : b .third ≡ min (b .end) n
-  pub input : b .input < 65536
-  pub output : b .input ≤ b .output
-  pub wide : b .output < b .input + 65536
-  pub end : b .output ≤ b .end
-  pub long : b .end < b .output + 65536
+pub record BoundsHold (b : Bounds) (n : ℕ) : Type 0 where
+  pub window-end : b .«window_end» ≡ min (b .«input_start») n
+  pub input-end : b .«input_end» ≡ min (b .«output_start») n
+  pub output-end : b .«output_end» ≡ min (b .end) n
+  pub input-start : b .«input_start» < 65536
+  pub output-start : b .«input_start» ≤ b .«output_start»
+  pub wide : b .«output_start» < b .«input_start» + 65536
+  pub end : b .«output_start» ≤ b .end
+  pub long : b .end < b .«output_start» + 65536
   pub filled : b .filled < 65536
 
 -- the machine in the bytes, by the bounds: what a run does not touch is as in the state that it was given
-unfoldable pub machineAt : State → Bounds → Cpu → ℕ → Positions → List ℕ → Machine
-machineAt given b cpu status k l =
+unfoldable pub machineByBounds : State → Bounds → Cpu → ℕ → Positions → List ℕ → Machine
+machineByBounds given b cpu status k l =
     record {
       state = withWritten (k .written) (withRead (k .read) (withFilled (b .filled) (withStatus status (withCpu cpu given))));
-      window = take (b .input) l;
-      input = take (b .output - b .input) (drop (b .input) l);
-      output = take (b .end - b .output) (drop (b .output) l);
+      window = take (b .«input_start») l;
+      input = take (b .«output_start» - b .«input_start») (drop (b .«input_start») l);
+      output = take (b .end - b .«output_start») (drop (b .«output_start») l);
     }
 
-unfoldable pub offerOf : Bounds → Positions → Offer
-offerOf b k = record { unread = ltb (k .read) (b .filled); at = b .input + k .read; full = leb (b .third) (b .output + k .written) }
+unfoldable pub portViewOf : Bounds → Positions → PortView
+portViewOf b k = record { unread = ltb (k .read) (b .filled); at = b .«input_start» + k .read; full = leb (b .«output_end») (b .«output_start» + k .written) }
 
 -- positions and bytes after an effect
-pub record Settled : Type 0 where
+pub record PartitionAfter : Type 0 where
   pub positions : Positions
   pub bytes : List ℕ
 
-abbrev pub settled : Positions → List ℕ → Settled
-settled k l = record { positions = k; bytes = l }
+abbrev pub partitionAfter : Positions → List ℕ → PartitionAfter
+partitionAfter k l = record { positions = k; bytes = l }
 
-unfoldable pub settledOf : Pending → Bounds → Positions → List ℕ → Settled
-settledOf Nothing b k l = settled k l
-settledOf (Store a v) b k l = if ltb a (b .first) then settled k (set l a (v % 256)) else settled k l
-settledOf Take b k l =
-    if ltb (k .read) (b .filled) then settled (record { read = k .read + 1; written = k .written }) l else settled k l
-settledOf (Put v) b k l =
-    if ltb (b .output + k .written) (b .third)
-    then settled (record { read = k .read; written = k .written + 1 }) (set l (b .output + k .written) (v % 256))
-    else settled k l
+unfoldable pub applyEffectOf : PackedEffect → Bounds → Positions → List ℕ → PartitionAfter
+applyEffectOf Nothing b k l = partitionAfter k l
+applyEffectOf (Store a v) b k l = if ltb a (b .«window_end») then partitionAfter k (set l a (v % 256)) else partitionAfter k l
+applyEffectOf Take b k l =
+    if ltb (k .read) (b .filled) then partitionAfter (record { read = k .read + 1; written = k .written }) l else partitionAfter k l
+applyEffectOf (Put v) b k l =
+    if ltb (b .«output_start» + k .written) (b .«output_end»)
+    then partitionAfter (record { read = k .read; written = k .written + 1 }) (set l (b .«output_start» + k .written) (v % 256))
+    else partitionAfter k l

@@ -1,13 +1,13 @@
 -- Definitions that must be believed: what a step comes to, and the ways in which one ends (document 01, "Status of a station").
 use mathlib.Core.Bool.{Bool}
 use Prim.Native.Nat.{ℕ}
-use Rattle.cpu.specs.Address.{inPage}
+use Rattle.cpu.specs.Address.{addInPage}
 use Rattle.cpu.specs.Alu.{operateOf}
-use Rattle.cpu.specs.State.{counterOf, pslOf, registerOf, withCounter, withRegister, withPsl}
+use Rattle.cpu.specs.Cpu.{counterOf, pslOf, registerOf, withCounter, withRegister, withPsl}
 use Rattle.common.specs.declared.places.Address.{Address}
-use Rattle.cpu.specs.declared.alu.Outcome.{Outcome}
+use Rattle.cpu.specs.declared.alu.AluResult.{AluResult}
 use Rattle.cpu.specs.declared.decode.Operation.{Operation}
-use Rattle.cpu.specs.declared.state.Cpu.{Cpu}
+use Rattle.cpu.specs.declared.cpu.Cpu.{Cpu}
 
 -- what a step may see of the buffers: is input unread, its next byte, is the output full
 pub record Ports : Type 0 where
@@ -22,16 +22,16 @@ pub data Effect : Type 0 where
   Take : Effect
   Put : ℕ → Effect
 
-pub record Stepped : Type 0 where
+pub record StepResult : Type 0 where
   pub cpu : Cpu
   pub status : ℕ
   pub effect : Effect
 
-abbrev pub endedOf : Cpu → ℕ → Effect → Stepped
+abbrev pub endedOf : Cpu → ℕ → Effect → StepResult
 endedOf cpu n x = record { cpu = cpu; status = n; effect = x }
 
 -- status 1, and no effect but on the state
-abbrev pub goingOf : Cpu → Stepped
+abbrev pub goingOf : Cpu → StepResult
 goingOf cpu = endedOf cpu 1 Nothing
 
 -- the last of the statuses
@@ -39,25 +39,25 @@ abbrev pub lastStatus : ℕ
 lastStatus = 7
 
 -- statuses from 3 on: nothing of the instruction takes effect, and the counter remains at its first byte
-abbrev pub stoppedOf : Cpu → ℕ → Stepped
+abbrev pub stoppedOf : Cpu → ℕ → StepResult
 stoppedOf cpu n = endedOf cpu n Nothing
 
 -- the address k after the instruction's first byte
-abbrev pub afterOf : Cpu → ℕ → Address
-afterOf cpu k = inPage (counterOf cpu) k
+abbrev pub addressAfter : Cpu → ℕ → Address
+addressAfter cpu k = addInPage (counterOf cpu) k
 
 -- the counter past an instruction of k bytes
 unfoldable pub advancedOf : Cpu → ℕ → Cpu
-advancedOf cpu k = withCounter cpu (afterOf cpu k)
+advancedOf cpu k = withCounter cpu (addressAfter cpu k)
 
 -- a result goes to register r, and its PSL with it
-unfoldable pub appliedOf : Cpu → ℕ → Outcome → Cpu
-appliedOf cpu r o = withPsl (withRegister cpu r (o .value)) (o .psl)
+unfoldable pub withAluResult : Cpu → ℕ → AluResult → Cpu
+withAluResult cpu r o = withPsl (withRegister cpu r (o .value)) (o .psl)
 
 -- an instruction of k bytes that changes register r alone
-unfoldable pub changedOf : Cpu → ℕ → ℕ → Outcome → Stepped
-changedOf cpu k r o = goingOf (advancedOf (appliedOf cpu r o) k)
+unfoldable pub registerChangedOf : Cpu → ℕ → ℕ → AluResult → StepResult
+registerChangedOf cpu k r o = goingOf (advancedOf (withAluResult cpu r o) k)
 
 -- an operation on register r and the operand b
-unfoldable pub operatedOf : Operation → Cpu → ℕ → ℕ → Stepped
-operatedOf f cpu r b = goingOf (appliedOf cpu r (operateOf f (pslOf cpu) (registerOf cpu r) b))
+unfoldable pub operatedOf : Operation → Cpu → ℕ → ℕ → StepResult
+operatedOf f cpu r b = goingOf (withAluResult cpu r (operateOf f (pslOf cpu) (registerOf cpu r) b))

@@ -1,99 +1,25 @@
--- Definitions that must be believed: registers, status words and return addresses
--- (document 01, "The machine"; manual, "Program Status Word").
-use Prim.Native.Nat.{ℕ, _+_, _*_, _/_, _%_}
-use lib.Dec.{eqb}
-use lib.ListN.{getD, set, replicate}
-use Rattle.common.specs.Choice.{if_then_else_}
-use Rattle.common.specs.declared.places.Address.{Address}
-use Rattle.cpu.specs.declared.state.Cpu.{Cpu}
+-- Definitions that must be believed: what is kept of a machine beside its bytes, and its parts set one at a time
+-- (document 01, "The lone 2650 of demand 3").
+use Prim.Native.Nat.{ℕ}
+use Rattle.cpu.specs.declared.cpu.Cpu.{Cpu}
+use Rattle.cpu.specs.declared.state.State.{State}
 
--- PSL by the manual's letters: carry, compare, with carry, register select, interdigit carry, condition code
-abbrev pub bitC : ℕ → ℕ
-bitC psl = psl % 2
+-- a state at rest: status 0, and nothing in the buffers
+abbrev pub restingState : Cpu → State
+restingState cpu = record { cpu = cpu; status = 0; filled = 0; read = 0; written = 0 }
 
-abbrev pub bitCOM : ℕ → ℕ
-bitCOM psl = psl / 2 % 2
+-- the parts of a state, anew
+abbrev pub withCpu : Cpu → State → State
+withCpu c s = record { cpu = c; status = s .status; filled = s .filled; read = s .read; written = s .written }
 
-abbrev pub bitWC : ℕ → ℕ
-bitWC psl = psl / 8 % 2
+abbrev pub withStatus : ℕ → State → State
+withStatus n s = record { cpu = s .cpu; status = n; filled = s .filled; read = s .read; written = s .written }
 
-abbrev pub bitRS : ℕ → ℕ
-bitRS psl = psl / 16 % 2
+abbrev pub withRead : ℕ → State → State
+withRead n s = record { cpu = s .cpu; status = s .status; filled = s .filled; read = n; written = s .written }
 
-abbrev pub bitIDC : ℕ → ℕ
-bitIDC psl = psl / 32 % 2
+abbrev pub withWritten : ℕ → State → State
+withWritten n s = record { cpu = s .cpu; status = s .status; filled = s .filled; read = s .read; written = n }
 
-abbrev pub fieldCC : ℕ → ℕ
-fieldCC psl = psl / 64
-
--- PSU's stack pointer, and PSU with another one
-abbrev pub fieldSP : ℕ → ℕ
-fieldSP psu = psu % 8
-
-abbrev pub withSP : ℕ → ℕ → ℕ
-withSP psu sp = psu / 8 * 8 + sp
-
--- PSU with II, its bit 5, clear
-abbrev pub withoutII : ℕ → ℕ
-withoutII psu = psu / 64 * 64 + psu % 32
-
--- the bits of PSU that are stored: Flag, II and SP. Sense is never stored, and bits 4 and 3 are always zero
-abbrev pub storedPsu : ℕ → ℕ
-storedPsu v = v / 32 % 4 * 32 + v % 8
-
--- a state before its first instruction: the counter there, registers, status words and return addresses zero
-unfoldable pub freshCpu : Address → Cpu
-freshCpu start = record { counter = start .0; registers = replicate 7 0; psu = 0; psl = 0; returns = replicate 8 0 }
-
--- the parts of the state, by name
-unfoldable pub counterOf : Cpu → Address
-counterOf cpu = record { 0 = cpu .counter }
-
-unfoldable pub psuOf : Cpu → ℕ
-psuOf cpu = cpu .psu
-
-unfoldable pub pslOf : Cpu → ℕ
-pslOf cpu = cpu .psl
-
--- where register r stands among the seven: R0, then R1 to R3 of bank 0, then R1 to R3 of bank 1
-unfoldable pub registerIndex : ℕ → ℕ → ℕ
-registerIndex rs r = if eqb r 0 then 0 else r + 3 * rs
-
-unfoldable pub registerOf : Cpu → ℕ → ℕ
-registerOf cpu r = getD (cpu .registers) (registerIndex (bitRS (pslOf cpu)) r) 0
-
-unfoldable pub returnOf : Cpu → ℕ → Address
-returnOf cpu sp = record { 0 = getD (cpu .returns) sp 0 }
-
--- the state with one part changed
-unfoldable pub withCounter : Cpu → Address → Cpu
-withCounter cpu a = record { counter = a .0; registers = cpu .registers; psu = cpu .psu; psl = cpu .psl; returns = cpu .returns }
-
-unfoldable pub withRegister : Cpu → ℕ → ℕ → Cpu
-withRegister cpu r v =
-    record {
-      counter = cpu .counter;
-      registers = set (cpu .registers) (registerIndex (bitRS (pslOf cpu)) r) v;
-      psu = cpu .psu;
-      psl = cpu .psl;
-      returns = cpu .returns;
-    }
-
-unfoldable pub withPsu : Cpu → ℕ → Cpu
-withPsu cpu p = record { counter = cpu .counter; registers = cpu .registers; psu = p; psl = cpu .psl; returns = cpu .returns }
-
-unfoldable pub withPsl : Cpu → ℕ → Cpu
-withPsl cpu p = record { counter = cpu .counter; registers = cpu .registers; psu = cpu .psu; psl = p; returns = cpu .returns }
-
-unfoldable pub withReturn : Cpu → ℕ → Address → Cpu
-withReturn cpu sp a = record { counter = cpu .counter; registers = cpu .registers; psu = cpu .psu; psl = cpu .psl; returns = set (cpu .returns) sp (a .0) }
-
--- a call adds one to SP, modulo 8, and stores the return address there
-unfoldable pub calledOf : Cpu → Address → Cpu
-calledOf cpu back =
-    withPsu (withReturn cpu ((fieldSP (psuOf cpu) + 1) % 8) back) (withSP (psuOf cpu) ((fieldSP (psuOf cpu) + 1) % 8))
-
--- a return takes the counter from SP, and subtracts one from it, modulo 8
-unfoldable pub returnedOf : Cpu → Cpu
-returnedOf cpu =
-    withPsu (withCounter cpu (returnOf cpu (fieldSP (psuOf cpu)))) (withSP (psuOf cpu) ((fieldSP (psuOf cpu) + 7) % 8))
+abbrev pub withFilled : ℕ → State → State
+withFilled n s = record { cpu = s .cpu; status = s .status; filled = n; read = s .read; written = s .written }

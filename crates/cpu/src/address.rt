@@ -1,7 +1,7 @@
 ghost use mathlib.Core.Path.{_≡_};
 ghost use Prim.Native.Nat.{_<_};
 ghost use lib.Signed.{mag};
-ghost use Rattle.cpu.specs.Address.{inPage, onward, addressOf, fetchOf, pointerOf, throughOf, displacementOf, displacedOf, relativeOf};
+ghost use Rattle.cpu.specs.Address.{addInPage, addWrapping, addressOf, fetchOf, pointerOf, resolveOf, displacementOf, displacedOf, relativeOf};
 use common::Address;
 
 pub enum Fetched {
@@ -14,20 +14,20 @@ pub enum Located {
     Outside,
 }
 
-pub(crate) fn in_page(a: Address, k: u16) -> Address
+pub(crate) fn add_in_page(a: Address, k: u16) -> Address
     requires { ⌜ k < 16384 ⌝ }
-    ensures { λ r. ⌜ r ≡ inPage a k ⌝ }
+    ensures { λ r. ⌜ r ≡ addInPage a k ⌝ }
 {
     Address(a.0 / 8192 * 8192 + (a.0 % 8192 + k) % 8192)
 }
 
-pub(crate) fn onward(a: Address, k: u8) -> Address
-    ensures { λ r. ⌜ r ≡ onward a k ⌝ }
+pub(crate) fn add_wrapping(a: Address, k: u8) -> Address
+    ensures { λ r. ⌜ r ≡ addWrapping a k ⌝ }
 {
     Address(((a.0 as u32 + k as u32) % 32768) as u16)
 }
 
-pub(crate) fn joined(high: u8, low: u8) -> Address
+pub(crate) fn address_of(high: u8, low: u8) -> Address
     ensures { λ r. ⌜ r ≡ addressOf high low ⌝ }
 {
     Address(((high as u32 * 256 + low as u32) % 32768) as u16)
@@ -50,15 +50,15 @@ pub(crate) fn pointer(window: &[u8], a: Address) -> Located
     let Fetched::Byte(high) = fetch(window, a) else {
         return Located::Outside;
     };
-    let Fetched::Byte(low) = fetch(window, in_page(a, 1)) else {
+    let Fetched::Byte(low) = fetch(window, add_in_page(a, 1)) else {
         return Located::Outside;
     };
-    let p = joined(high, low);
+    let p = address_of(high, low);
     Located::At(p)
 }
 
-pub(crate) fn through(window: &[u8], indirect: u8, a: Address) -> Located
-    ensures { λ r. ⌜ r ≡ throughOf (now (window .entry)) indirect a ⌝ }
+pub(crate) fn resolve(window: &[u8], indirect: u8, a: Address) -> Located
+    ensures { λ r. ⌜ r ≡ resolveOf (now (window .entry)) indirect a ⌝ }
 {
     if indirect == 0 {
         Located::At(a)

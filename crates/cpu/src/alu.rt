@@ -1,17 +1,17 @@
 ghost use mathlib.Core.Path.{_≡_};
 ghost use Prim.Native.Nat.{_<_};
-ghost use Rattle.cpu.specs.State.{bitRS};
-ghost use Rattle.cpu.specs.Alu.{conditionOf, withCC, withFlags, sumOf, carryOf, digitCarryOf, overflowOf, addedOf, carryInOf, loadedOf, signedOf, compareOf, comparedOf, operateOf, testOf, rotatedOf, rotateLeftOf, rotateRightOf, digitOf, decimalOf};
+ghost use Rattle.cpu.specs.Cpu.{bitRS};
+ghost use Rattle.cpu.specs.Alu.{conditionCodeOf, withCC, withFlags, sumOf, carryOf, digitCarryOf, overflowOf, sumResultOf, carryInOf, loadResultOf, signedOf, compareCCOf, compareResultOf, operateOf, testCCOf, rotateResultOf, rotateLeftOf, rotateRightOf, adjustDigitOf, decimalAdjustOf};
 use crate::decode::Operation;
 
 // A result byte, and the PSL that it leaves. No result changes RS: every function here that makes one says so.
-pub struct Outcome {
+pub struct AluResult {
     pub value: u8,
     pub psl: u8,
 }
 
-fn condition(b: u8) -> u8
-    ensures { λ r. ⌜ r ≡ conditionOf b ⌝ }
+fn condition_code(b: u8) -> u8
+    ensures { λ r. ⌜ r ≡ conditionCodeOf b ⌝ }
     ensures { λ r. ⌜ r < 3 ⌝ }
 {
     if b == 0 {
@@ -89,16 +89,16 @@ fn overflow(a: u8, b: u8, k: u8, out: u8) -> u8
     (into + out) % 2
 }
 
-fn added(psl: u8, a: u8, b: u8, k: u8) -> Outcome
+fn sum_result(psl: u8, a: u8, b: u8, k: u8) -> AluResult
     requires { ⌜ k < 2 ⌝ }
-    ensures { λ o. ⌜ o ≡ addedOf psl a b k ⌝ }
+    ensures { λ o. ⌜ o ≡ sumResultOf psl a b k ⌝ }
     ensures { λ o. ⌜ bitRS (o .psl) ≡ bitRS psl ⌝ }
 {
     let s = Sum::of(a, b, k);
-    let cc = condition(s.value);
+    let cc = condition_code(s.value);
     let idc = digit_carry(a, b, k);
     let ovf = overflow(a, b, k, s.carry);
-    Outcome {
+    AluResult {
         value: s.value,
         psl: with_flags(psl, cc, idc, ovf, s.carry),
     }
@@ -112,12 +112,12 @@ fn carry_in(psl: u8, other: u8) -> u8
     if psl / 8 % 2 == 0 { other } else { psl % 2 }
 }
 
-pub(crate) fn loaded(psl: u8, v: u8) -> Outcome
-    ensures { λ o. ⌜ o ≡ loadedOf psl v ⌝ }
+pub(crate) fn load_result(psl: u8, v: u8) -> AluResult
+    ensures { λ o. ⌜ o ≡ loadResultOf psl v ⌝ }
     ensures { λ o. ⌜ bitRS (o .psl) ≡ bitRS psl ⌝ }
 {
-    let cc = condition(v);
-    Outcome {
+    let cc = condition_code(v);
+    AluResult {
         value: v,
         psl: with_cc(psl, cc),
     }
@@ -129,8 +129,8 @@ fn signed(b: u8) -> i16
     if b < 128 { b as i16 } else { b as i16 - 256 }
 }
 
-fn compare(unsigned: u8, a: u8, b: u8) -> u8
-    ensures { λ r. ⌜ r ≡ compareOf unsigned a b ⌝ }
+fn compare_cc(unsigned: u8, a: u8, b: u8) -> u8
+    ensures { λ r. ⌜ r ≡ compareCCOf unsigned a b ⌝ }
     ensures { λ r. ⌜ r < 3 ⌝ }
 {
     if a == b {
@@ -147,87 +147,87 @@ fn compare(unsigned: u8, a: u8, b: u8) -> u8
     }
 }
 
-fn compared(psl: u8, a: u8, b: u8) -> Outcome
-    ensures { λ o. ⌜ o ≡ comparedOf psl a b ⌝ }
+fn compare_result(psl: u8, a: u8, b: u8) -> AluResult
+    ensures { λ o. ⌜ o ≡ compareResultOf psl a b ⌝ }
     ensures { λ o. ⌜ bitRS (o .psl) ≡ bitRS psl ⌝ }
 {
-    let cc = compare(psl / 2 % 2, a, b);
-    Outcome {
+    let cc = compare_cc(psl / 2 % 2, a, b);
+    AluResult {
         value: a,
         psl: with_cc(psl, cc),
     }
 }
 
-pub(crate) fn operate(operation: Operation, psl: u8, a: u8, b: u8) -> Outcome
+pub(crate) fn operate(operation: Operation, psl: u8, a: u8, b: u8) -> AluResult
     ensures { λ o. ⌜ o ≡ operateOf operation psl a b ⌝ }
     ensures { λ o. ⌜ bitRS (o .psl) ≡ bitRS psl ⌝ }
 {
     match operation {
-        Operation::Lod => loaded(psl, b),
-        Operation::Eor => loaded(psl, a ^ b),
-        Operation::And => loaded(psl, a & b),
-        Operation::Ior => loaded(psl, a | b),
-        Operation::Add => added(psl, a, b, carry_in(psl, 0)),
-        Operation::Sub => added(psl, a, 255 - b, carry_in(psl, 1)),
-        Operation::Com => compared(psl, a, b),
+        Operation::Lod => load_result(psl, b),
+        Operation::Eor => load_result(psl, a ^ b),
+        Operation::And => load_result(psl, a & b),
+        Operation::Ior => load_result(psl, a | b),
+        Operation::Add => sum_result(psl, a, b, carry_in(psl, 0)),
+        Operation::Sub => sum_result(psl, a, 255 - b, carry_in(psl, 1)),
+        Operation::Com => compare_result(psl, a, b),
     }
 }
 
-pub(crate) fn test(v: u8, mask: u8) -> u8
-    ensures { λ r. ⌜ r ≡ testOf v mask ⌝ }
+pub(crate) fn test_cc(v: u8, mask: u8) -> u8
+    ensures { λ r. ⌜ r ≡ testCCOf v mask ⌝ }
     ensures { λ r. ⌜ r < 3 ⌝ }
 {
     let both = v & mask;
     if both == mask { 0 } else { 2 }
 }
 
-fn rotated(psl: u8, a: u8, v: u8, c: u8) -> Outcome
+fn rotate_result(psl: u8, a: u8, v: u8, c: u8) -> AluResult
     requires { ⌜ c < 2 ⌝ }
-    ensures { λ o. ⌜ o ≡ rotatedOf psl a v c ⌝ }
+    ensures { λ o. ⌜ o ≡ rotateResultOf psl a v c ⌝ }
     ensures { λ o. ⌜ bitRS (o .psl) ≡ bitRS psl ⌝ }
 {
-    let cc = condition(v);
-    Outcome {
+    let cc = condition_code(v);
+    AluResult {
         value: v,
         psl: with_flags(psl, cc, v / 32 % 2, (a / 128 + v / 128) % 2, c),
     }
 }
 
-pub(crate) fn rotate_left(psl: u8, a: u8) -> Outcome
+pub(crate) fn rotate_left(psl: u8, a: u8) -> AluResult
     ensures { λ o. ⌜ o ≡ rotateLeftOf psl a ⌝ }
     ensures { λ o. ⌜ bitRS (o .psl) ≡ bitRS psl ⌝ }
 {
     if psl / 8 % 2 == 0 {
-        loaded(psl, a % 128 * 2 + a / 128)
+        load_result(psl, a % 128 * 2 + a / 128)
     } else {
-        rotated(psl, a, a % 128 * 2 + psl % 2, a / 128)
+        rotate_result(psl, a, a % 128 * 2 + psl % 2, a / 128)
     }
 }
 
-pub(crate) fn rotate_right(psl: u8, a: u8) -> Outcome
+pub(crate) fn rotate_right(psl: u8, a: u8) -> AluResult
     ensures { λ o. ⌜ o ≡ rotateRightOf psl a ⌝ }
     ensures { λ o. ⌜ bitRS (o .psl) ≡ bitRS psl ⌝ }
 {
     if psl / 8 % 2 == 0 {
-        loaded(psl, a % 2 * 128 + a / 2)
+        load_result(psl, a % 2 * 128 + a / 2)
     } else {
-        rotated(psl, a, psl % 2 * 128 + a / 2, a % 2)
+        rotate_result(psl, a, psl % 2 * 128 + a / 2, a % 2)
     }
 }
 
-fn digit(carry: u8, d: u8) -> u8
+fn adjust_digit(carry: u8, d: u8) -> u8
     requires { ⌜ d < 16 ⌝ }
-    ensures { λ r. ⌜ r ≡ digitOf carry d ⌝ }
+    ensures { λ r. ⌜ r ≡ adjustDigitOf carry d ⌝ }
     ensures { λ r. ⌜ r < 16 ⌝ }
 {
     if carry == 0 { (d + 10) % 16 } else { d }
 }
 
-pub(crate) fn decimal(psl: u8, a: u8) -> Outcome
-    ensures { λ o. ⌜ o ≡ decimalOf psl a ⌝ }
+pub(crate) fn decimal_adjust(psl: u8, a: u8) -> AluResult
+    ensures { λ o. ⌜ o ≡ decimalAdjustOf psl a ⌝ }
     ensures { λ o. ⌜ bitRS (o .psl) ≡ bitRS psl ⌝ }
 {
-    let high = digit(psl % 2, a / 16);
-    let low = digit(psl / 32 % 2, a % 16);
-    loaded(psl, high * 16 + low)
+    let high = adjust_digit(psl % 2, a / 16);
+    let low = adjust_digit(psl / 32 % 2, a % 16);
+    load_result(psl, high * 16 + low)
 }

@@ -1,5 +1,5 @@
 ghost use mathlib.Core.Path.{_≡_};
-ghost use Rattle.cpu.specs.Decode.{fourOf, firstOf, lastOf, decodeOf, modeLength, reachLength, lengthOf};
+ghost use Rattle.cpu.specs.Decode.{eachOfFour, firstAndRest, restAndLast, decodeOf, modeLength, branchLength, instructionLength};
 
 // The families that come in four addressing modes, by the manual's mnemonics.
 pub enum Operation {
@@ -21,19 +21,19 @@ pub enum Mode {
 }
 
 // What is done with it: it is worked on, or a register is stored over it.
-pub enum Use {
+pub enum Access {
     Read(Operation),
     Write,
 }
 
-// Relative, with two bytes, or absolute, with three.
-pub enum Reach {
-    Near,
-    Far,
+// How a branch names its target: relative, with two bytes, or absolute, with three.
+pub enum BranchMode {
+    Relative,
+    Absolute,
 }
 
 // The branches on a condition or a register; the last three are calls.
-pub enum Kind {
+pub enum BranchKind {
     Bct,
     Bcf,
     Brn,
@@ -51,7 +51,7 @@ pub enum Instruction {
     Unknown,
     UnusedPort,
     ExtendedPort,
-    Operate(Mode, Use),
+    Operate(Mode, Access),
     Strz,
     Nop,
     Halt,
@@ -73,15 +73,21 @@ pub enum Instruction {
     Wrtd,
     Retc,
     Rete,
-    Branch(Reach, Kind),
+    Branch(BranchMode, BranchKind),
     Zbrr,
     Zbsr,
     Bxa,
     Bsxa,
 }
 
-fn four(a: Instruction, b: Instruction, c: Instruction, d: Instruction, r: u8) -> Instruction
-    ensures { λ i. ⌜ i ≡ fourOf a b c d r ⌝ }
+fn each_of_four(
+    a: Instruction,
+    b: Instruction,
+    c: Instruction,
+    d: Instruction,
+    r: u8,
+) -> Instruction
+    ensures { λ i. ⌜ i ≡ eachOfFour a b c d r ⌝ }
 {
     if r == 0 {
         a
@@ -94,14 +100,14 @@ fn four(a: Instruction, b: Instruction, c: Instruction, d: Instruction, r: u8) -
     }
 }
 
-fn first(a: Instruction, others: Instruction, r: u8) -> Instruction
-    ensures { λ i. ⌜ i ≡ firstOf a others r ⌝ }
+fn first_and_rest(a: Instruction, others: Instruction, r: u8) -> Instruction
+    ensures { λ i. ⌜ i ≡ firstAndRest a others r ⌝ }
 {
     if r == 0 { a } else { others }
 }
 
-fn last(others: Instruction, d: Instruction, r: u8) -> Instruction
-    ensures { λ i. ⌜ i ≡ lastOf others d r ⌝ }
+fn rest_and_last(others: Instruction, d: Instruction, r: u8) -> Instruction
+    ensures { λ i. ⌜ i ≡ restAndLast others d r ⌝ }
 {
     if r == 3 { d } else { others }
 }
@@ -119,13 +125,13 @@ impl Mode {
     }
 }
 
-impl Reach {
+impl BranchMode {
     fn length(self) -> u16
-        ensures { λ n. ⌜ n ≡ reachLength self ⌝ }
+        ensures { λ n. ⌜ n ≡ branchLength self ⌝ }
     {
         match self {
-            Reach::Near => 2,
-            Reach::Far => 3,
+            BranchMode::Relative => 2,
+            BranchMode::Absolute => 3,
         }
     }
 }
@@ -139,19 +145,19 @@ impl Instruction {
         let class = op / 4;
         match class {
             // 00 unknown, 01 LODZ
-            0 => first(
+            0 => first_and_rest(
                 Instruction::Unknown,
-                Instruction::Operate(Mode::Register, Use::Read(Operation::Lod)),
+                Instruction::Operate(Mode::Register, Access::Read(Operation::Lod)),
                 r,
             ),
             // 04 LODI
-            1 => Instruction::Operate(Mode::Immediate, Use::Read(Operation::Lod)),
+            1 => Instruction::Operate(Mode::Immediate, Access::Read(Operation::Lod)),
             // 08 LODR
-            2 => Instruction::Operate(Mode::Relative, Use::Read(Operation::Lod)),
+            2 => Instruction::Operate(Mode::Relative, Access::Read(Operation::Lod)),
             // 0C LODA
-            3 => Instruction::Operate(Mode::Absolute, Use::Read(Operation::Lod)),
+            3 => Instruction::Operate(Mode::Absolute, Access::Read(Operation::Lod)),
             // 10, 11 unknown, 12 SPSU, 13 SPSL
-            4 => four(
+            4 => each_of_four(
                 Instruction::Unknown,
                 Instruction::Unknown,
                 Instruction::Spsu,
@@ -161,57 +167,57 @@ impl Instruction {
             // 14 RETC
             5 => Instruction::Retc,
             // 18 BCTR
-            6 => Instruction::Branch(Reach::Near, Kind::Bct),
+            6 => Instruction::Branch(BranchMode::Relative, BranchKind::Bct),
             // 1C BCTA
-            7 => Instruction::Branch(Reach::Far, Kind::Bct),
+            7 => Instruction::Branch(BranchMode::Absolute, BranchKind::Bct),
             // 20 EORZ
-            8 => Instruction::Operate(Mode::Register, Use::Read(Operation::Eor)),
+            8 => Instruction::Operate(Mode::Register, Access::Read(Operation::Eor)),
             // 24 EORI
-            9 => Instruction::Operate(Mode::Immediate, Use::Read(Operation::Eor)),
+            9 => Instruction::Operate(Mode::Immediate, Access::Read(Operation::Eor)),
             // 28 EORR
-            10 => Instruction::Operate(Mode::Relative, Use::Read(Operation::Eor)),
+            10 => Instruction::Operate(Mode::Relative, Access::Read(Operation::Eor)),
             // 2C EORA
-            11 => Instruction::Operate(Mode::Absolute, Use::Read(Operation::Eor)),
+            11 => Instruction::Operate(Mode::Absolute, Access::Read(Operation::Eor)),
             // 30 REDC
             12 => Instruction::UnusedPort,
             // 34 RETE
             13 => Instruction::Rete,
             // 38 BSTR
-            14 => Instruction::Branch(Reach::Near, Kind::Bst),
+            14 => Instruction::Branch(BranchMode::Relative, BranchKind::Bst),
             // 3C BSTA
-            15 => Instruction::Branch(Reach::Far, Kind::Bst),
+            15 => Instruction::Branch(BranchMode::Absolute, BranchKind::Bst),
             // 40 HALT, 41 ANDZ
-            16 => first(
+            16 => first_and_rest(
                 Instruction::Halt,
-                Instruction::Operate(Mode::Register, Use::Read(Operation::And)),
+                Instruction::Operate(Mode::Register, Access::Read(Operation::And)),
                 r,
             ),
             // 44 ANDI
-            17 => Instruction::Operate(Mode::Immediate, Use::Read(Operation::And)),
+            17 => Instruction::Operate(Mode::Immediate, Access::Read(Operation::And)),
             // 48 ANDR
-            18 => Instruction::Operate(Mode::Relative, Use::Read(Operation::And)),
+            18 => Instruction::Operate(Mode::Relative, Access::Read(Operation::And)),
             // 4C ANDA
-            19 => Instruction::Operate(Mode::Absolute, Use::Read(Operation::And)),
+            19 => Instruction::Operate(Mode::Absolute, Access::Read(Operation::And)),
             // 50 RRR
             20 => Instruction::Rrr,
             // 54 REDE
             21 => Instruction::ExtendedPort,
             // 58 BRNR
-            22 => Instruction::Branch(Reach::Near, Kind::Brn),
+            22 => Instruction::Branch(BranchMode::Relative, BranchKind::Brn),
             // 5C BRNA
-            23 => Instruction::Branch(Reach::Far, Kind::Brn),
+            23 => Instruction::Branch(BranchMode::Absolute, BranchKind::Brn),
             // 60 IORZ
-            24 => Instruction::Operate(Mode::Register, Use::Read(Operation::Ior)),
+            24 => Instruction::Operate(Mode::Register, Access::Read(Operation::Ior)),
             // 64 IORI
-            25 => Instruction::Operate(Mode::Immediate, Use::Read(Operation::Ior)),
+            25 => Instruction::Operate(Mode::Immediate, Access::Read(Operation::Ior)),
             // 68 IORR
-            26 => Instruction::Operate(Mode::Relative, Use::Read(Operation::Ior)),
+            26 => Instruction::Operate(Mode::Relative, Access::Read(Operation::Ior)),
             // 6C IORA
-            27 => Instruction::Operate(Mode::Absolute, Use::Read(Operation::Ior)),
+            27 => Instruction::Operate(Mode::Absolute, Access::Read(Operation::Ior)),
             // 70 REDD
             28 => Instruction::Redd,
             // 74 CPSU, 75 CPSL, 76 PPSU, 77 PPSL
-            29 => four(
+            29 => each_of_four(
                 Instruction::Cpsu,
                 Instruction::Cpsl,
                 Instruction::Ppsu,
@@ -219,19 +225,19 @@ impl Instruction {
                 r,
             ),
             // 78 BSNR
-            30 => Instruction::Branch(Reach::Near, Kind::Bsn),
+            30 => Instruction::Branch(BranchMode::Relative, BranchKind::Bsn),
             // 7C BSNA
-            31 => Instruction::Branch(Reach::Far, Kind::Bsn),
+            31 => Instruction::Branch(BranchMode::Absolute, BranchKind::Bsn),
             // 80 ADDZ
-            32 => Instruction::Operate(Mode::Register, Use::Read(Operation::Add)),
+            32 => Instruction::Operate(Mode::Register, Access::Read(Operation::Add)),
             // 84 ADDI
-            33 => Instruction::Operate(Mode::Immediate, Use::Read(Operation::Add)),
+            33 => Instruction::Operate(Mode::Immediate, Access::Read(Operation::Add)),
             // 88 ADDR
-            34 => Instruction::Operate(Mode::Relative, Use::Read(Operation::Add)),
+            34 => Instruction::Operate(Mode::Relative, Access::Read(Operation::Add)),
             // 8C ADDA
-            35 => Instruction::Operate(Mode::Absolute, Use::Read(Operation::Add)),
+            35 => Instruction::Operate(Mode::Absolute, Access::Read(Operation::Add)),
             // 90, 91 unknown, 92 LPSU, 93 LPSL
-            36 => four(
+            36 => each_of_four(
                 Instruction::Unknown,
                 Instruction::Unknown,
                 Instruction::Lpsu,
@@ -241,29 +247,29 @@ impl Instruction {
             // 94 DAR
             37 => Instruction::Dar,
             // 98 BCFR, 9B ZBRR
-            38 => last(
-                Instruction::Branch(Reach::Near, Kind::Bcf),
+            38 => rest_and_last(
+                Instruction::Branch(BranchMode::Relative, BranchKind::Bcf),
                 Instruction::Zbrr,
                 r,
             ),
             // 9C BCFA, 9F BXA
-            39 => last(
-                Instruction::Branch(Reach::Far, Kind::Bcf),
+            39 => rest_and_last(
+                Instruction::Branch(BranchMode::Absolute, BranchKind::Bcf),
                 Instruction::Bxa,
                 r,
             ),
             // A0 SUBZ
-            40 => Instruction::Operate(Mode::Register, Use::Read(Operation::Sub)),
+            40 => Instruction::Operate(Mode::Register, Access::Read(Operation::Sub)),
             // A4 SUBI
-            41 => Instruction::Operate(Mode::Immediate, Use::Read(Operation::Sub)),
+            41 => Instruction::Operate(Mode::Immediate, Access::Read(Operation::Sub)),
             // A8 SUBR
-            42 => Instruction::Operate(Mode::Relative, Use::Read(Operation::Sub)),
+            42 => Instruction::Operate(Mode::Relative, Access::Read(Operation::Sub)),
             // AC SUBA
-            43 => Instruction::Operate(Mode::Absolute, Use::Read(Operation::Sub)),
+            43 => Instruction::Operate(Mode::Absolute, Access::Read(Operation::Sub)),
             // B0 WRTC
             44 => Instruction::UnusedPort,
             // B4 TPSU, B5 TPSL, B6, B7 unknown
-            45 => four(
+            45 => each_of_four(
                 Instruction::Tpsu,
                 Instruction::Tpsl,
                 Instruction::Unknown,
@@ -271,62 +277,62 @@ impl Instruction {
                 r,
             ),
             // B8 BSFR, BB ZBSR
-            46 => last(
-                Instruction::Branch(Reach::Near, Kind::Bsf),
+            46 => rest_and_last(
+                Instruction::Branch(BranchMode::Relative, BranchKind::Bsf),
                 Instruction::Zbsr,
                 r,
             ),
             // BC BSFA, BF BSXA
-            47 => last(
-                Instruction::Branch(Reach::Far, Kind::Bsf),
+            47 => rest_and_last(
+                Instruction::Branch(BranchMode::Absolute, BranchKind::Bsf),
                 Instruction::Bsxa,
                 r,
             ),
             // C0 NOP, C1 STRZ
-            48 => first(Instruction::Nop, Instruction::Strz, r),
+            48 => first_and_rest(Instruction::Nop, Instruction::Strz, r),
             // C4 to C7 unknown
             49 => Instruction::Unknown,
             // C8 STRR
-            50 => Instruction::Operate(Mode::Relative, Use::Write),
+            50 => Instruction::Operate(Mode::Relative, Access::Write),
             // CC STRA
-            51 => Instruction::Operate(Mode::Absolute, Use::Write),
+            51 => Instruction::Operate(Mode::Absolute, Access::Write),
             // D0 RRL
             52 => Instruction::Rrl,
             // D4 WRTE
             53 => Instruction::ExtendedPort,
             // D8 BIRR
-            54 => Instruction::Branch(Reach::Near, Kind::Bir),
+            54 => Instruction::Branch(BranchMode::Relative, BranchKind::Bir),
             // DC BIRA
-            55 => Instruction::Branch(Reach::Far, Kind::Bir),
+            55 => Instruction::Branch(BranchMode::Absolute, BranchKind::Bir),
             // E0 COMZ
-            56 => Instruction::Operate(Mode::Register, Use::Read(Operation::Com)),
+            56 => Instruction::Operate(Mode::Register, Access::Read(Operation::Com)),
             // E4 COMI
-            57 => Instruction::Operate(Mode::Immediate, Use::Read(Operation::Com)),
+            57 => Instruction::Operate(Mode::Immediate, Access::Read(Operation::Com)),
             // E8 COMR
-            58 => Instruction::Operate(Mode::Relative, Use::Read(Operation::Com)),
+            58 => Instruction::Operate(Mode::Relative, Access::Read(Operation::Com)),
             // EC COMA
-            59 => Instruction::Operate(Mode::Absolute, Use::Read(Operation::Com)),
+            59 => Instruction::Operate(Mode::Absolute, Access::Read(Operation::Com)),
             // F0 WRTD
             60 => Instruction::Wrtd,
             // F4 TMI
             61 => Instruction::Tmi,
             // F8 BDRR
-            62 => Instruction::Branch(Reach::Near, Kind::Bdr),
+            62 => Instruction::Branch(BranchMode::Relative, BranchKind::Bdr),
             // FC BDRA
-            _ => Instruction::Branch(Reach::Far, Kind::Bdr),
+            _ => Instruction::Branch(BranchMode::Absolute, BranchKind::Bdr),
         }
     }
 
     // How many bytes an instruction has. The step does not call it: the code of each instruction has its own number, held to
     // this one by its contract, so that the compiler knows it there.
     pub fn length(self) -> u16
-        ensures { λ n. ⌜ n ≡ lengthOf self ⌝ }
+        ensures { λ n. ⌜ n ≡ instructionLength self ⌝ }
     {
         match self {
             Instruction::Unknown => 1,
             Instruction::UnusedPort => 1,
             Instruction::ExtendedPort => 2,
-            Instruction::Operate(mode, _usage) => mode.length(),
+            Instruction::Operate(mode, _access) => mode.length(),
             Instruction::Strz => 1,
             Instruction::Nop => 1,
             Instruction::Halt => 1,
@@ -348,7 +354,7 @@ impl Instruction {
             Instruction::Wrtd => 1,
             Instruction::Retc => 1,
             Instruction::Rete => 1,
-            Instruction::Branch(reach, _kind) => reach.length(),
+            Instruction::Branch(mode, _kind) => mode.length(),
             Instruction::Zbrr => 2,
             Instruction::Zbsr => 2,
             Instruction::Bxa => 3,

@@ -1,36 +1,49 @@
 ghost use mathlib.Core.Path.{_≡_};
 ghost use Prim.Native.Nat.{_<_};
-ghost use Rattle.cpu.specs.Core.{cpuOf, steppedOf, offeredOf};
-ghost use Rattle.cpu.specs.Decode.{lengthOf};
+ghost use Rattle.cpu.specs.PackedCpu.{cpuOf, stepResultOf, portsOfView};
+ghost use Rattle.cpu.specs.Decode.{instructionLength};
 ghost use Rattle.cpu.specs.Instruction.{executeOf, stepOf};
 use crate::address;
 use crate::address::Fetched;
 use crate::alu;
 use crate::branch;
-use crate::core;
-use crate::core::Core;
 use crate::decode::Instruction;
 use crate::operand;
+use crate::packed_cpu;
+use crate::packed_cpu::PackedCpu;
 use crate::port;
+use crate::psw;
 use crate::result;
-use crate::result::Next;
-use crate::result::Offer;
-use crate::result::Pending;
-use crate::status;
+use crate::result::PackedEffect;
+use crate::result::PackedStep;
+use crate::result::PortView;
 
-fn execute(i: Instruction, m: Core, window: &[u8], source: &[u8], o: Offer, r: u8) -> Next
+fn execute(
+    i: Instruction,
+    m: PackedCpu,
+    window: &[u8],
+    source: &[u8],
+    o: PortView,
+    r: u8,
+) -> PackedStep
     requires { ⌜ r < 4 ⌝ }
-    ensures { λ s. ⌜ steppedOf s ≡ executeOf i (cpuOf m) (lengthOf i) (now (window .entry)) (offeredOf o (now (source .entry))) r ⌝ }
+    ensures { λ s. ⌜ stepResultOf s ≡ executeOf i (cpuOf m) (instructionLength i) (now (window .entry)) (portsOfView o (now (source .entry))) r ⌝ }
 {
     match i {
         Instruction::Unknown => result::stopped(m, 5),
         Instruction::UnusedPort => result::stopped(m, 7),
         Instruction::ExtendedPort => result::stopped(m, 7),
-        Instruction::Operate(mode, usage) => operand::with_operand(mode, usage, m, window, r),
+        Instruction::Operate(mode, access) => operand::operate_on_operand(
+            mode,
+            access,
+            m,
+            window,
+            r,
+        ),
         Instruction::Strz => {
-            let v = core::register(m, 0);
-            let l = alu::loaded(core::psl(m), v);
-            result::changed(m, r, l)
+            let v = packed_cpu::register(m, 0);
+            let l = alu::load_result(packed_cpu::psl(m), v);
+            result::register_changed(m, r, l)
         }
         Instruction::Nop => {
             let t = result::advanced(m, 1);
@@ -38,66 +51,66 @@ fn execute(i: Instruction, m: Core, window: &[u8], source: &[u8], o: Offer, r: u
         }
         Instruction::Halt => {
             let t = result::advanced(m, 1);
-            result::ended(t, 2, Pending::Nothing)
+            result::ended(t, 2, PackedEffect::Nothing)
         }
         Instruction::Spsu => {
-            let v = status::sensed(m, o.unread);
-            let l = alu::loaded(core::psl(m), v);
-            result::changed(m, 0, l)
+            let v = psw::psu_with_sense(m, o.unread);
+            let l = alu::load_result(packed_cpu::psl(m), v);
+            result::register_changed(m, 0, l)
         }
         Instruction::Spsl => {
-            let p = core::psl(m);
-            let l = alu::loaded(p, p);
-            result::changed(m, 0, l)
+            let p = packed_cpu::psl(m);
+            let l = alu::load_result(p, p);
+            result::register_changed(m, 0, l)
         }
         Instruction::Lpsu => {
-            let v = core::register(m, 0);
-            let n = core::with_psu(m, status::stored(v));
+            let v = packed_cpu::register(m, 0);
+            let n = packed_cpu::with_psu(m, psw::stored_psu(v));
             let t = result::advanced(n, 1);
             result::going(t)
         }
         Instruction::Lpsl => {
-            let v = core::register(m, 0);
-            let n = core::with_psl(m, v);
+            let v = packed_cpu::register(m, 0);
+            let n = packed_cpu::with_psl(m, v);
             let t = result::advanced(n, 1);
             result::going(t)
         }
-        Instruction::Cpsu => status::clear_psu(m, window),
-        Instruction::Cpsl => status::clear_psl(m, window),
-        Instruction::Ppsu => status::preset_psu(m, window),
-        Instruction::Ppsl => status::preset_psl(m, window),
+        Instruction::Cpsu => psw::clear_psu(m, window),
+        Instruction::Cpsl => psw::clear_psl(m, window),
+        Instruction::Ppsu => psw::preset_psu(m, window),
+        Instruction::Ppsl => psw::preset_psl(m, window),
         Instruction::Tpsu => {
-            let v = status::sensed(m, o.unread);
-            status::tested(m, window, v)
+            let v = psw::psu_with_sense(m, o.unread);
+            psw::tested(m, window, v)
         }
         Instruction::Tpsl => {
-            let v = core::psl(m);
-            status::tested(m, window, v)
+            let v = packed_cpu::psl(m);
+            psw::tested(m, window, v)
         }
         Instruction::Tmi => {
-            let v = core::register(m, r);
-            status::tested(m, window, v)
+            let v = packed_cpu::register(m, r);
+            psw::tested(m, window, v)
         }
         Instruction::Dar => {
-            let v = core::register(m, r);
-            let d = alu::decimal(core::psl(m), v);
-            result::changed(m, r, d)
+            let v = packed_cpu::register(m, r);
+            let d = alu::decimal_adjust(packed_cpu::psl(m), v);
+            result::register_changed(m, r, d)
         }
         Instruction::Rrr => {
-            let v = core::register(m, r);
-            let d = alu::rotate_right(core::psl(m), v);
-            result::changed(m, r, d)
+            let v = packed_cpu::register(m, r);
+            let d = alu::rotate_right(packed_cpu::psl(m), v);
+            result::register_changed(m, r, d)
         }
         Instruction::Rrl => {
-            let v = core::register(m, r);
-            let d = alu::rotate_left(core::psl(m), v);
-            result::changed(m, r, d)
+            let v = packed_cpu::register(m, r);
+            let d = alu::rotate_left(packed_cpu::psl(m), v);
+            result::register_changed(m, r, d)
         }
-        Instruction::Redd => port::read(m, source, o, r),
-        Instruction::Wrtd => port::write(m, source, o, r),
+        Instruction::Redd => port::read_data(m, source, o, r),
+        Instruction::Wrtd => port::write_data(m, source, o, r),
         Instruction::Retc => branch::return_if(m, r),
         Instruction::Rete => branch::return_enable(m, r),
-        Instruction::Branch(reach, kind) => branch::branch(reach, kind, m, window, r),
+        Instruction::Branch(mode, kind) => branch::branch(mode, kind, m, window, r),
         Instruction::Zbrr => branch::zero_branch(false, m, window),
         Instruction::Zbsr => branch::zero_branch(true, m, window),
         Instruction::Bxa => branch::indexed_branch(false, m, window),
@@ -105,10 +118,10 @@ fn execute(i: Instruction, m: Core, window: &[u8], source: &[u8], o: Offer, r: u
     }
 }
 
-pub(crate) fn one(m: Core, window: &[u8], source: &[u8], o: Offer) -> Next
-    ensures { λ s. ⌜ steppedOf s ≡ stepOf (cpuOf m) (now (window .entry)) (offeredOf o (now (source .entry))) ⌝ }
+pub(crate) fn step(m: PackedCpu, window: &[u8], source: &[u8], o: PortView) -> PackedStep
+    ensures { λ s. ⌜ stepResultOf s ≡ stepOf (cpuOf m) (now (window .entry)) (portsOfView o (now (source .entry))) ⌝ }
 {
-    let here = core::counter(m);
+    let here = packed_cpu::counter(m);
     let Fetched::Byte(op) = address::fetch(window, here) else {
         return result::stopped(m, 6);
     };

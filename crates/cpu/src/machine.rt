@@ -1,38 +1,11 @@
 ghost use mathlib.Core.Path.{_≡_};
-ghost use Rattle.cpu.specs.Machine.{restingState, beyond, machineOf, machineStep};
+ghost use Rattle.cpu.specs.Machine.{beyond, machineOf, machineStep};
 ghost use Rattle.common.specs.Repetition.{times};
-use crate::core;
+use crate::packed_cpu;
 use crate::partition;
 use crate::partition::Positions;
-use crate::state::Cpu;
+use crate::state::State;
 use common::Layout;
-
-// What is kept of a machine beside its bytes: document 01's status and the positions in its two buffers.
-pub struct State {
-    pub cpu: Cpu,
-    pub status: u8,
-    pub filled: u16,
-    pub read: u16,
-    pub written: u16,
-}
-
-impl State {
-    // The last of document 01's statuses.
-    pub const LAST_STATUS: u8 = 7;
-
-    // Status 0, and nothing in the buffers.
-    pub fn at_rest(cpu: Cpu) -> State
-        ensures { λ s. ⌜ s ≡ restingState cpu ⌝ }
-    {
-        State {
-            cpu,
-            status: 0,
-            filled: 0,
-            read: 0,
-            written: 0,
-        }
-    }
-}
 
 // At most so many steps, until the status is not 1. The slice holds the partition's bytes and nothing else: one that is
 // shorter than the layout cuts the parts that it ends in, and of one that is longer the rest is untouched.
@@ -40,14 +13,14 @@ pub fn run(state: State, partition: &mut [u8], layout: Layout, steps: u64) -> St
     ensures { λ s. ⌜ machineOf layout s (now (partition .exit)) ≡ times steps machineStep (machineOf layout state (now (partition .entry))) ⌝ }
     ensures { λ s. ⌜ beyond layout (now (partition .exit)) ≡ beyond layout (now (partition .entry)) ⌝ }
 {
-    let b = partition::parted(
+    let b = partition::bounds_of(
         layout.window,
         layout.input,
         layout.output,
         state.filled,
         partition.len(),
     );
-    let mut core = core::pack(state.cpu);
+    let mut cpu = packed_cpu::pack(state.cpu);
     let mut status = state.status;
     let mut k = Positions {
         read: state.read as usize,
@@ -58,17 +31,17 @@ pub fn run(state: State, partition: &mut [u8], layout: Layout, steps: u64) -> St
         if status != 1 {
             break;
         }
-        let stepped = partition::advance(core, &partition[..], b, k);
-        let c = stepped.core;
-        core = c;
+        let stepped = partition::step_in_partition(cpu, &partition[..], b, k);
+        let c = stepped.cpu;
+        cpu = c;
         status = stepped.status;
         let effect = stepped.effect;
-        let n = partition::settle(partition, effect, b, k);
+        let n = partition::apply_effect(partition, effect, b, k);
         k = n;
         i += 1;
     }
     let mut next = state;
-    next.cpu = core::unpack(core);
+    next.cpu = packed_cpu::unpack(cpu);
     next.status = status;
     next.read = k.read as u16;
     next.written = k.written as u16;

@@ -1,24 +1,24 @@
 ghost use mathlib.Core.Path.{_≡_};
 ghost use Prim.Native.Nat.{_<_};
-ghost use Rattle.cpu.specs.Core.{cpuOf, steppedOf, suppliedOf};
+ghost use Rattle.cpu.specs.PackedCpu.{cpuOf, stepResultOf, operandResultOf};
 ghost use Rattle.cpu.specs.Decode.{modeLength};
-ghost use Rattle.cpu.specs.Operand.{indexOf, indexedAddressOf, dataAddressOf, dataRegisterOf, steppedIndexOf, registerOperandOf, immediateOperandOf, relativeOperandOf, absoluteOperandOf, operandOf, withOperandOf};
+ghost use Rattle.cpu.specs.Operand.{indexOf, indexedAddressOf, dataAddressOf, dataRegisterOf, steppedIndexOf, registerOperandOf, immediateOperandOf, relativeOperandOf, absoluteOperandOf, operandOf, operateOnOperandOf};
 use crate::address;
 use crate::address::Fetched;
 use crate::address::Located;
-use crate::core;
-use crate::core::Core;
+use crate::decode::Access;
 use crate::decode::Mode;
-use crate::decode::Use;
+use crate::packed_cpu;
+use crate::packed_cpu::PackedCpu;
 use crate::result;
-use crate::result::Next;
-use crate::result::Pending;
+use crate::result::PackedEffect;
+use crate::result::PackedStep;
 use common::Address;
 
 // An operand: its byte, its address, the control bits (not 0 where R0 is the data), and the state after the
 // instruction's own bytes. The control bits stand for the register, whose range they keep.
-pub enum Supply {
-    Ready(u8, Address, u8, Core),
+pub enum OperandResult {
+    Ready(u8, Address, u8, PackedCpu),
     Missing,
 }
 
@@ -40,20 +40,20 @@ fn indexed_address(window: &[u8], indirect: u8, a: Address, i: u8) -> Located
     ensures { λ p. ⌜ p ≡ indexedAddressOf (now (window .entry)) indirect a i ⌝ }
 {
     if indirect == 0 {
-        let d = address::in_page(a, i as u16);
+        let d = address::add_in_page(a, i as u16);
         return Located::At(d);
     }
     let Located::At(p) = address::pointer(window, a) else {
         return Located::Outside;
     };
-    let d = address::onward(p, i);
+    let d = address::add_wrapping(p, i);
     Located::At(d)
 }
 
-fn data_address(m: Core, high: u8, low: u8) -> Address
+fn data_address(m: PackedCpu, high: u8, low: u8) -> Address
     ensures { λ a. ⌜ a ≡ dataAddressOf (cpuOf m) high low ⌝ }
 {
-    let here = core::counter(m);
+    let here = packed_cpu::counter(m);
     Address(here.0 / 8192 * 8192 + ((high % 32) as u16 * 256 + low as u16))
 }
 
@@ -65,86 +65,86 @@ fn data_register(control: u8, r: u8) -> u8
     if control == 0 { r } else { 0 }
 }
 
-fn stepped_index(m: Core, r: u8, control: u8, i: u8) -> Core
+fn stepped_index(m: PackedCpu, r: u8, control: u8, i: u8) -> PackedCpu
     requires { ⌜ r < 4 ⌝ }
     ensures { λ n. ⌜ cpuOf n ≡ steppedIndexOf (cpuOf m) r control i ⌝ }
 {
     if control == 0 {
         m
     } else {
-        core::with_register(m, r, i)
+        packed_cpu::with_register(m, r, i)
     }
 }
 
-fn register_operand(m: Core, r: u8) -> Supply
+fn register_operand(m: PackedCpu, r: u8) -> OperandResult
     requires { ⌜ r < 4 ⌝ }
-    ensures { λ o. ⌜ suppliedOf r o ≡ registerOperandOf (cpuOf m) 1 r ⌝ }
+    ensures { λ o. ⌜ operandResultOf r o ≡ registerOperandOf (cpuOf m) 1 r ⌝ }
 {
-    let b = core::register(m, r);
+    let b = packed_cpu::register(m, r);
     let n = result::advanced(m, 1);
-    Supply::Ready(b, Address(0), 1, n)
+    OperandResult::Ready(b, Address(0), 1, n)
 }
 
-fn immediate_operand(m: Core, window: &[u8], r: u8) -> Supply
-    ensures { λ o. ⌜ suppliedOf r o ≡ immediateOperandOf (cpuOf m) 2 (now (window .entry)) r ⌝ }
+fn immediate_operand(m: PackedCpu, window: &[u8], r: u8) -> OperandResult
+    ensures { λ o. ⌜ operandResultOf r o ≡ immediateOperandOf (cpuOf m) 2 (now (window .entry)) r ⌝ }
 {
-    let at = result::after(m, 1);
+    let at = result::address_after(m, 1);
     let Fetched::Byte(b) = address::fetch(window, at) else {
-        return Supply::Missing;
+        return OperandResult::Missing;
     };
     let n = result::advanced(m, 2);
-    Supply::Ready(b, Address(0), 0, n)
+    OperandResult::Ready(b, Address(0), 0, n)
 }
 
-fn relative_operand(m: Core, window: &[u8], r: u8) -> Supply
-    ensures { λ o. ⌜ suppliedOf r o ≡ relativeOperandOf (cpuOf m) 2 (now (window .entry)) r ⌝ }
+fn relative_operand(m: PackedCpu, window: &[u8], r: u8) -> OperandResult
+    ensures { λ o. ⌜ operandResultOf r o ≡ relativeOperandOf (cpuOf m) 2 (now (window .entry)) r ⌝ }
 {
-    let at = result::after(m, 1);
+    let at = result::address_after(m, 1);
     let Fetched::Byte(second) = address::fetch(window, at) else {
-        return Supply::Missing;
+        return OperandResult::Missing;
     };
-    let next = result::after(m, 2);
+    let next = result::address_after(m, 2);
     let direct = address::relative(next, second);
-    let Located::At(a) = address::through(window, second / 128, direct) else {
-        return Supply::Missing;
+    let Located::At(a) = address::resolve(window, second / 128, direct) else {
+        return OperandResult::Missing;
     };
     let Fetched::Byte(b) = address::fetch(window, a) else {
-        return Supply::Missing;
+        return OperandResult::Missing;
     };
     let n = result::advanced(m, 2);
-    Supply::Ready(b, a, 0, n)
+    OperandResult::Ready(b, a, 0, n)
 }
 
-fn absolute_operand(m: Core, window: &[u8], r: u8) -> Supply
+fn absolute_operand(m: PackedCpu, window: &[u8], r: u8) -> OperandResult
     requires { ⌜ r < 4 ⌝ }
-    ensures { λ o. ⌜ suppliedOf r o ≡ absoluteOperandOf (cpuOf m) 3 (now (window .entry)) r ⌝ }
+    ensures { λ o. ⌜ operandResultOf r o ≡ absoluteOperandOf (cpuOf m) 3 (now (window .entry)) r ⌝ }
 {
-    let first = result::after(m, 1);
+    let first = result::address_after(m, 1);
     let Fetched::Byte(high) = address::fetch(window, first) else {
-        return Supply::Missing;
+        return OperandResult::Missing;
     };
-    let second = result::after(m, 2);
+    let second = result::address_after(m, 2);
     let Fetched::Byte(low) = address::fetch(window, second) else {
-        return Supply::Missing;
+        return OperandResult::Missing;
     };
     let control = high / 32 % 4;
-    let v = core::register(m, r);
+    let v = packed_cpu::register(m, r);
     let i = index(control, v);
     let direct = data_address(m, high, low);
     let Located::At(a) = indexed_address(window, high / 128, direct, i) else {
-        return Supply::Missing;
+        return OperandResult::Missing;
     };
     let Fetched::Byte(b) = address::fetch(window, a) else {
-        return Supply::Missing;
+        return OperandResult::Missing;
     };
     let s = stepped_index(m, r, control, i);
     let n = result::advanced(s, 3);
-    Supply::Ready(b, a, control, n)
+    OperandResult::Ready(b, a, control, n)
 }
 
-fn find(mode: Mode, m: Core, window: &[u8], r: u8) -> Supply
+fn operand_of(mode: Mode, m: PackedCpu, window: &[u8], r: u8) -> OperandResult
     requires { ⌜ r < 4 ⌝ }
-    ensures { λ o. ⌜ suppliedOf r o ≡ operandOf mode (cpuOf m) (modeLength mode) (now (window .entry)) r ⌝ }
+    ensures { λ o. ⌜ operandResultOf r o ≡ operandOf mode (cpuOf m) (modeLength mode) (now (window .entry)) r ⌝ }
 {
     match mode {
         Mode::Register => register_operand(m, r),
@@ -155,19 +155,25 @@ fn find(mode: Mode, m: Core, window: &[u8], r: u8) -> Supply
 }
 
 // A store looks its operand up like the others: the same addresses are outside.
-pub(crate) fn with_operand(mode: Mode, usage: Use, m: Core, window: &[u8], r: u8) -> Next
+pub(crate) fn operate_on_operand(
+    mode: Mode,
+    access: Access,
+    m: PackedCpu,
+    window: &[u8],
+    r: u8,
+) -> PackedStep
     requires { ⌜ r < 4 ⌝ }
-    ensures { λ s. ⌜ steppedOf s ≡ withOperandOf mode usage (cpuOf m) (modeLength mode) (now (window .entry)) r ⌝ }
+    ensures { λ s. ⌜ stepResultOf s ≡ operateOnOperandOf mode access (cpuOf m) (modeLength mode) (now (window .entry)) r ⌝ }
 {
-    let Supply::Ready(b, a, control, n) = find(mode, m, window, r) else {
+    let OperandResult::Ready(b, a, control, n) = operand_of(mode, m, window, r) else {
         return result::stopped(m, 6);
     };
     let d = data_register(control, r);
-    match usage {
-        Use::Read(f) => result::operated(f, n, d, b),
-        Use::Write => {
-            let v = core::register(n, d);
-            result::ended(n, 1, Pending::Store(a.0 as u64, v as u64))
+    match access {
+        Access::Read(f) => result::operated(f, n, d, b),
+        Access::Write => {
+            let v = packed_cpu::register(n, d);
+            result::ended(n, 1, PackedEffect::Store(a.0 as u64, v as u64))
         }
     }
 }

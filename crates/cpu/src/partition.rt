@@ -1,23 +1,24 @@
 ghost use mathlib.Core.Path.{_≡_};
 ghost use Prim.Native.Nat.{_<_, _≤_, min};
 ghost use lib.ListN.{length, take};
-ghost use Rattle.cpu.specs.Core.{cpuOf, steppedOf, offeredOf};
-ghost use Rattle.cpu.specs.Partition.{boundsOf, Parts, offerOf, settled, settledOf};
+ghost use Rattle.cpu.specs.PackedCpu.{cpuOf, stepResultOf, portsOfView};
+ghost use Rattle.cpu.specs.Partition.{boundsOf, BoundsHold, portViewOf, partitionAfter, applyEffectOf};
 ghost use Rattle.cpu.specs.Instruction.{stepOf};
-use crate::core::Core;
 use crate::instruction;
-use crate::result::Next;
-use crate::result::Offer;
-use crate::result::Pending;
+use crate::packed_cpu::PackedCpu;
+use crate::result::PackedEffect;
+use crate::result::PackedStep;
+use crate::result::PortView;
 
-// Where window, input and output end in the bytes at hand (`first`, `second`, `third`), where input and output start by
-// their sizes, where the partition ends by them, and how far the input is filled. The loop of a run knows the sizes by these alone.
+// The bounds of a partition's parts. `window_end`, `input_end` and `output_end` are cut at the end of the bytes at hand; `input_start`,
+// `output_start` and `end` are as the sizes have them. `filled` is how far the input is filled. The loop of a run knows the sizes by
+// these alone.
 pub struct Bounds {
-    pub first: usize,
-    pub input: usize,
-    pub second: usize,
-    pub output: usize,
-    pub third: usize,
+    pub window_end: usize,
+    pub input_start: usize,
+    pub input_end: usize,
+    pub output_start: usize,
+    pub output_end: usize,
     pub end: usize,
     pub filled: usize,
 }
@@ -27,83 +28,93 @@ pub struct Positions {
     pub written: usize,
 }
 
-fn least(a: usize, b: usize) -> usize
+fn min(a: usize, b: usize) -> usize
     ensures { λ c. ⌜ c ≡ min a b ⌝ }
     ensures { λ c. ⌜ c ≤ b ⌝ }
 {
     if a < b { a } else { b }
 }
 
-pub(crate) fn parted(window: u16, input: u16, output: u16, filled: u16, all: usize) -> Bounds
+pub(crate) fn bounds_of(window: u16, input: u16, output: u16, filled: u16, all: usize) -> Bounds
     ensures { λ b. ⌜ b ≡ boundsOf window input output filled all ⌝ }
-    ensures { λ b. ⌜ Parts b all ⌝ }
+    ensures { λ b. ⌜ BoundsHold b all ⌝ }
 {
     let w = window as usize;
     let i = w + input as usize;
     let o = i + output as usize;
-    let first = least(w, all);
-    let second = least(i, all);
-    let third = least(o, all);
+    let window_end = min(w, all);
+    let input_end = min(i, all);
+    let output_end = min(o, all);
     Bounds {
-        first,
-        input: w,
-        second,
-        output: i,
-        third,
+        window_end,
+        input_start: w,
+        input_end,
+        output_start: i,
+        output_end,
         end: o,
         filled: filled as usize,
     }
 }
 
-fn offer(b: Bounds, k: Positions) -> Offer
-    requires { ⌜ b .input < 65536 ⌝ }
-    requires { ⌜ b .output < 131072 ⌝ }
+fn port_view(b: Bounds, k: Positions) -> PortView
+    requires { ⌜ b .«input_start» < 65536 ⌝ }
+    requires { ⌜ b .«output_start» < 131072 ⌝ }
     requires { ⌜ k .read < 65536 ⌝ }
     requires { ⌜ k .written < 65536 ⌝ }
-    ensures { λ o. ⌜ o ≡ offerOf b k ⌝ }
+    ensures { λ o. ⌜ o ≡ portViewOf b k ⌝ }
 {
-    Offer {
+    PortView {
         unread: k.read < b.filled,
-        at: b.input + k.read,
-        full: b.third <= b.output + k.written,
+        at: b.input_start + k.read,
+        full: b.output_end <= b.output_start + k.written,
     }
 }
 
 // One instruction on the partition's bytes: fetch and operand reading see the window alone.
-pub(crate) fn advance(m: Core, partition: &[u8], b: Bounds, k: Positions) -> Next
-    requires { ⌜ b .first ≤ length (now partition) ⌝ }
-    requires { ⌜ b .second ≤ length (now partition) ⌝ }
-    requires { ⌜ b .input < 65536 ⌝ }
-    requires { ⌜ b .output < 131072 ⌝ }
+pub(crate) fn step_in_partition(
+    m: PackedCpu,
+    partition: &[u8],
+    b: Bounds,
+    k: Positions,
+) -> PackedStep
+    requires { ⌜ b .«window_end» ≤ length (now partition) ⌝ }
+    requires { ⌜ b .«input_end» ≤ length (now partition) ⌝ }
+    requires { ⌜ b .«input_start» < 65536 ⌝ }
+    requires { ⌜ b .«output_start» < 131072 ⌝ }
     requires { ⌜ k .read < 65536 ⌝ }
     requires { ⌜ k .written < 65536 ⌝ }
-    ensures { λ s. ⌜ steppedOf s ≡ stepOf (cpuOf m) (take (b .first) (now (partition .entry))) (offeredOf (offerOf b k) (take (b .second) (now (partition .entry)))) ⌝ }
+    ensures { λ s. ⌜ stepResultOf s ≡ stepOf (cpuOf m) (take (b .«window_end») (now (partition .entry))) (portsOfView (portViewOf b k) (take (b .«input_end») (now (partition .entry)))) ⌝ }
 {
-    let o = offer(b, k);
-    let first = b.first;
-    let second = b.second;
-    instruction::one(m, &partition[..first], &partition[..second], o)
+    let o = port_view(b, k);
+    let window_end = b.window_end;
+    let input_end = b.input_end;
+    instruction::step(m, &partition[..window_end], &partition[..input_end], o)
 }
 
 // The one write of a step.
-pub(crate) fn settle(partition: &mut [u8], effect: Pending, b: Bounds, k: Positions) -> Positions
-    requires { ⌜ b .first ≤ length (now partition) ⌝ }
-    requires { ⌜ b .third ≤ length (now partition) ⌝ }
-    requires { ⌜ b .output < 131072 ⌝ }
+pub(crate) fn apply_effect(
+    partition: &mut [u8],
+    effect: PackedEffect,
+    b: Bounds,
+    k: Positions,
+) -> Positions
+    requires { ⌜ b .«window_end» ≤ length (now partition) ⌝ }
+    requires { ⌜ b .«output_end» ≤ length (now partition) ⌝ }
+    requires { ⌜ b .«output_start» < 131072 ⌝ }
     requires { ⌜ k .read < 65536 ⌝ }
     requires { ⌜ k .written < 65536 ⌝ }
-    ensures { λ n. ⌜ settled n (now (partition .exit)) ≡ settledOf effect b k (now (partition .entry)) ⌝ }
+    ensures { λ n. ⌜ partitionAfter n (now (partition .exit)) ≡ applyEffectOf effect b k (now (partition .entry)) ⌝ }
 {
     match effect {
-        Pending::Nothing => k,
-        Pending::Store(a, v) => {
+        PackedEffect::Nothing => k,
+        PackedEffect::Store(a, v) => {
             let at = a as usize;
-            if at < b.first {
+            if at < b.window_end {
                 partition[at] = (v % 256) as u8;
             }
             k
         }
-        Pending::Take => {
+        PackedEffect::Take => {
             if k.read < b.filled {
                 return Positions {
                     read: k.read + 1,
@@ -112,9 +123,9 @@ pub(crate) fn settle(partition: &mut [u8], effect: Pending, b: Bounds, k: Positi
             }
             k
         }
-        Pending::Put(v) => {
-            let at = b.output + k.written;
-            if at < b.third {
+        PackedEffect::Put(v) => {
+            let at = b.output_start + k.written;
+            if at < b.output_end {
                 partition[at] = (v % 256) as u8;
                 return Positions {
                     read: k.read,

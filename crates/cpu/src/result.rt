@@ -1,18 +1,18 @@
 ghost use mathlib.Core.Path.{_≡_};
 ghost use Prim.Native.Nat.{_<_};
-ghost use Rattle.cpu.specs.Core.{cpuOf, pendingOf, steppedOf};
-ghost use Rattle.cpu.specs.Result.{endedOf, goingOf, stoppedOf, afterOf, advancedOf, appliedOf, changedOf, operatedOf};
-ghost use Rattle.cpu.specs.State.{bitRS, pslOf};
+ghost use Rattle.cpu.specs.PackedCpu.{cpuOf, effectOf, stepResultOf};
+ghost use Rattle.cpu.specs.Result.{endedOf, goingOf, stoppedOf, addressAfter, advancedOf, withAluResult, registerChangedOf, operatedOf};
+ghost use Rattle.cpu.specs.Cpu.{bitRS, pslOf};
 use crate::address;
 use crate::alu;
-use crate::alu::Outcome;
-use crate::core;
-use crate::core::Core;
+use crate::alu::AluResult;
 use crate::decode::Operation;
+use crate::packed_cpu;
+use crate::packed_cpu::PackedCpu;
 use common::Address;
 
 // What a step does beside the state, in whole words: an address and a byte, or a byte.
-pub enum Pending {
+pub enum PackedEffect {
     Nothing,
     Store(u64, u64),
     Take,
@@ -20,92 +20,92 @@ pub enum Pending {
 }
 
 // What a step comes to.
-pub struct Next {
-    pub core: Core,
+pub struct PackedStep {
+    pub cpu: PackedCpu,
     pub status: u8,
-    pub effect: Pending,
+    pub effect: PackedEffect,
 }
 
 // What the buffers offer to a step: is input unread, where its next byte stands, is the output full.
-pub struct Offer {
+pub struct PortView {
     pub unread: bool,
     pub at: usize,
     pub full: bool,
 }
 
-pub(crate) fn ended(m: Core, status: u8, effect: Pending) -> Next
-    ensures { λ n. ⌜ steppedOf n ≡ endedOf (cpuOf m) status (pendingOf effect) ⌝ }
+pub(crate) fn ended(m: PackedCpu, status: u8, effect: PackedEffect) -> PackedStep
+    ensures { λ n. ⌜ stepResultOf n ≡ endedOf (cpuOf m) status (effectOf effect) ⌝ }
 {
-    Next {
-        core: m,
+    PackedStep {
+        cpu: m,
         status,
         effect,
     }
 }
 
-pub(crate) fn going(m: Core) -> Next
-    ensures { λ n. ⌜ steppedOf n ≡ goingOf (cpuOf m) ⌝ }
+pub(crate) fn going(m: PackedCpu) -> PackedStep
+    ensures { λ n. ⌜ stepResultOf n ≡ goingOf (cpuOf m) ⌝ }
 {
-    Next {
-        core: m,
+    PackedStep {
+        cpu: m,
         status: 1,
-        effect: Pending::Nothing,
+        effect: PackedEffect::Nothing,
     }
 }
 
-pub(crate) fn stopped(m: Core, status: u8) -> Next
-    ensures { λ n. ⌜ steppedOf n ≡ stoppedOf (cpuOf m) status ⌝ }
+pub(crate) fn stopped(m: PackedCpu, status: u8) -> PackedStep
+    ensures { λ n. ⌜ stepResultOf n ≡ stoppedOf (cpuOf m) status ⌝ }
 {
-    Next {
-        core: m,
+    PackedStep {
+        cpu: m,
         status,
-        effect: Pending::Nothing,
+        effect: PackedEffect::Nothing,
     }
 }
 
-pub(crate) fn after(m: Core, k: u16) -> Address
+pub(crate) fn address_after(m: PackedCpu, k: u16) -> Address
     requires { ⌜ k < 16 ⌝ }
-    ensures { λ a. ⌜ a ≡ afterOf (cpuOf m) k ⌝ }
+    ensures { λ a. ⌜ a ≡ addressAfter (cpuOf m) k ⌝ }
 {
-    let here = core::counter(m);
-    address::in_page(here, k)
+    let here = packed_cpu::counter(m);
+    address::add_in_page(here, k)
 }
 
-pub(crate) fn advanced(m: Core, k: u16) -> Core
+pub(crate) fn advanced(m: PackedCpu, k: u16) -> PackedCpu
     requires { ⌜ k < 16 ⌝ }
     ensures { λ n. ⌜ cpuOf n ≡ advancedOf (cpuOf m) k ⌝ }
 {
-    let a = after(m, k);
-    core::with_counter(m, a)
+    let a = address_after(m, k);
+    packed_cpu::with_counter(m, a)
 }
 
-pub(crate) fn applied(m: Core, r: u8, o: Outcome) -> Core
+pub(crate) fn with_alu_result(m: PackedCpu, r: u8, o: AluResult) -> PackedCpu
     requires { ⌜ r < 4 ⌝ }
     requires { ⌜ bitRS (o .psl) ≡ bitRS (pslOf (cpuOf m)) ⌝ }
-    ensures { λ n. ⌜ cpuOf n ≡ appliedOf (cpuOf m) r o ⌝ }
+    ensures { λ n. ⌜ cpuOf n ≡ withAluResult (cpuOf m) r o ⌝ }
 {
-    let n = core::with_register(m, r, o.value);
-    core::with_result(n, o.psl)
+    let n = packed_cpu::with_register(m, r, o.value);
+    packed_cpu::with_psl_in_bank(n, o.psl)
 }
 
 // A one-byte instruction.
-pub(crate) fn changed(m: Core, r: u8, o: Outcome) -> Next
+pub(crate) fn register_changed(m: PackedCpu, r: u8, o: AluResult) -> PackedStep
     requires { ⌜ r < 4 ⌝ }
     requires { ⌜ bitRS (o .psl) ≡ bitRS (pslOf (cpuOf m)) ⌝ }
-    ensures { λ n. ⌜ steppedOf n ≡ changedOf (cpuOf m) 1 r o ⌝ }
+    ensures { λ n. ⌜ stepResultOf n ≡ registerChangedOf (cpuOf m) 1 r o ⌝ }
 {
-    let n = applied(m, r, o);
+    let n = with_alu_result(m, r, o);
     let t = advanced(n, 1);
     going(t)
 }
 
-pub(crate) fn operated(f: Operation, m: Core, r: u8, b: u8) -> Next
+pub(crate) fn operated(f: Operation, m: PackedCpu, r: u8, b: u8) -> PackedStep
     requires { ⌜ r < 4 ⌝ }
-    ensures { λ n. ⌜ steppedOf n ≡ operatedOf f (cpuOf m) r b ⌝ }
+    ensures { λ n. ⌜ stepResultOf n ≡ operatedOf f (cpuOf m) r b ⌝ }
 {
-    let v = core::register(m, r);
-    let p = core::psl(m);
+    let v = packed_cpu::register(m, r);
+    let p = packed_cpu::psl(m);
     let o = alu::operate(f, p, v, b);
-    let n = applied(m, r, o);
+    let n = with_alu_result(m, r, o);
     going(n)
 }

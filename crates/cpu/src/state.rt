@@ -1,28 +1,31 @@
+// A machine's state: what is kept of it between runs.
 ghost use mathlib.Core.Path.{_≡_};
-ghost use Rattle.cpu.specs.State.{freshCpu};
-use common::Address;
+ghost use Rattle.cpu.specs.State.{restingState};
+use crate::cpu::Cpu;
 
-// The machine's registers, as they are kept between runs (document 01's machine).
-// Registers: R0, R1 to R3 of bank 0, R1 to R3 of bank 1. PSU is stored without Sense.
-pub struct Cpu {
-    pub counter: u16,
-    pub registers: [u8; 7],
-    pub psu: u8,
-    pub psl: u8,
-    pub returns: [u16; 8],
+// What is kept of a machine beside its bytes: document 01's status and the positions in its two buffers.
+pub struct State {
+    pub cpu: Cpu,
+    pub status: u8,
+    pub filled: u16,
+    pub read: u16,
+    pub written: u16,
 }
 
-impl Cpu {
-    // Before its first instruction, at `start`.
-    pub fn fresh(start: Address) -> Cpu
-        ensures { λ c. ⌜ c ≡ freshCpu start ⌝ }
+impl State {
+    // The last of document 01's statuses.
+    pub const LAST_STATUS: u8 = 7;
+
+    // Status 0, and nothing in the buffers.
+    pub fn at_rest(cpu: Cpu) -> State
+        ensures { λ s. ⌜ s ≡ restingState cpu ⌝ }
     {
-        Cpu {
-            counter: start.0,
-            registers: [0; 7],
-            psu: 0,
-            psl: 0,
-            returns: [0; 8],
+        State {
+            cpu,
+            status: 0,
+            filled: 0,
+            read: 0,
+            written: 0,
         }
     }
 }

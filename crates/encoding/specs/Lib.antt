@@ -1,4 +1,4 @@
 -- Definitions that must be believed.
-pub mod Encoding
+pub mod StateEncoding
 -- Laws that the checker has shown.
-pub mod RoundTrip
+pub mod StateRoundTripLaws

@@ -1,3 +1,3 @@
 -- Laws that only proofs need.
-pub mod Settling
-pub mod PatternFiling
+pub mod HostCallLaws
+pub mod HostFileLaws

@@ -1,10 +1,10 @@
 -- Definitions that must be believed, in reading order.
 pub mod TableEncoding
-pub mod Calls
+pub mod HostCalls
 pub mod PatternFiles
 pub mod BenchRun
-pub mod HostEvents
+pub mod HostIsolation
 -- Laws that the checker has shown.
-pub mod TableRoundTrip
+pub mod TableRoundTripLaws
 pub mod PatternFileLaws
-pub mod HostTheorem
+pub mod HostIsolationTheorem

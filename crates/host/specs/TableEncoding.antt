@@ -11,12 +11,12 @@
 use mathlib.Core.List.{List, [], _∷_, _++_, map}
 use Prim.Native.Nat.{ℕ, _+_, _*_}
 use lib.ListN.{getD, drop}
-use Rattle.slices.specs.Numbers.{pairOf, quadOf, pairAt, quadAt}
-use Rattle.slices.specs.Slices.{partOf, joined, listed}
+use Rattle.slices.specs.Numbers.{u16Bytes, u32Bytes, u16At, u32At}
+use Rattle.slices.specs.Slices.{partOf, concat, tabulate}
 use Rattle.supervisor.specs.declared.table.Partition.{Partition}
 use Rattle.supervisor.specs.declared.table.Slot.{Slot}
 use Rattle.supervisor.specs.declared.table.Table.{Table}
-use Rattle.encoding.specs.Encoding.{stateLength, stateBytes, stateAt}
+use Rattle.encoding.specs.StateEncoding.{stateLength, stateBytes, stateAt}
 
 -- ---- how many bytes a partition, a slot and a table have, and where the slots stand
 
@@ -26,21 +26,21 @@ partitionLength = 11
 abbrev pub slotLength : ℕ
 slotLength = partitionLength + stateLength
 
-abbrev pub slotsPlace : ℕ
-slotsPlace = 4
+abbrev pub slotsOffset : ℕ
+slotsOffset = 4
 
 abbrev pub tableLength : ℕ
-tableLength = slotsPlace + 8 * slotLength
+tableLength = slotsOffset + 8 * slotLength
 
 -- ---- from a table to its bytes
 
 unfoldable pub partitionBytes : Partition → List ℕ
 partitionBytes p =
-    joined (
-    quadOf (p .base .0)
-    ∷ pairOf (p .layout .window)
-    ∷ pairOf (p .layout .input)
-    ∷ pairOf (p .layout .output)
+    concat (
+    u32Bytes (p .base .0)
+    ∷ u16Bytes (p .layout .window)
+    ∷ u16Bytes (p .layout .input)
+    ∷ u16Bytes (p .layout .output)
     ∷ (p .quantum ∷ [])
     ∷ []
     )
@@ -49,15 +49,15 @@ unfoldable pub slotBytes : Slot → List ℕ
 slotBytes s = partitionBytes (s .partition) ++ stateBytes (s .state)
 
 unfoldable pub tableBytes : Table → List ℕ
-tableBytes t = quadOf (t .size) ++ joined (map slotBytes (t .slots))
+tableBytes t = u32Bytes (t .size) ++ concat (map slotBytes (t .slots))
 
 -- ---- from bytes to the table that they hold
 
 unfoldable pub partitionAt : List ℕ → Partition
 partitionAt bytes =
     record {
-      base = record { 0 = quadAt bytes 0 };
-      layout = record { window = pairAt bytes 4; input = pairAt bytes 6; output = pairAt bytes 8 };
+      base = record { 0 = u32At bytes 0 };
+      layout = record { window = u16At bytes 4; input = u16At bytes 6; output = u16At bytes 8 };
       quantum = getD bytes 10 0;
     }
 
@@ -65,4 +65,4 @@ unfoldable pub slotFrom : List ℕ → Slot
 slotFrom bytes = record { partition = partitionAt bytes; state = stateAt (drop partitionLength bytes) }
 
 unfoldable pub tableAt : List ℕ → Table
-tableAt bytes = record { size = quadAt bytes 0; slots = listed 8 (λ k. slotFrom (partOf bytes (slotsPlace + slotLength * k) slotLength)) }
+tableAt bytes = record { size = u32At bytes 0; slots = tabulate 8 (λ k. slotFrom (partOf bytes (slotsOffset + slotLength * k) slotLength)) }

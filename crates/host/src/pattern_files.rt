@@ -1,25 +1,25 @@
 // Calls on pattern files that a host lends.
 ghost use mathlib.Core.Path.{_≡_};
 ghost use Rattle.pattern.specs.Reader.{readOf};
-ghost use Rattle.host.specs.Calls.{answered};
+ghost use Rattle.host.specs.HostCalls.{answered};
 ghost use Rattle.host.specs.PatternFiles.{codeStretch, hostRead, hostWrite, inputStretch, stretchOf};
-use crate::calls::answer;
-use pattern::Values;
+use crate::host_calls::answer;
+use pattern::Parameters;
 
-// The file's values to the buffer's front.
+// The file's parameters to the buffer's front.
 #[no_mangle]
-pub extern "C" fn pf_read(file: &[u8], values: &mut [u8]) -> u32
-    ensures { λ r. ⌜ answered r (now (values .exit)) ≡ hostRead (readOf (now (file .entry))) (now (values .entry)) ⌝ }
+pub extern "C" fn pf_read(file: &[u8], parameters: &mut [u8]) -> u32
+    ensures { λ r. ⌜ answered r (now (parameters .exit)) ≡ hostRead (readOf (now (file .entry))) (now (parameters .entry)) ⌝ }
 {
     let read = pattern::read(file);
-    let pattern::Answer::Accepted(v) = read else {
-        return answer(pattern::refusal(read), 0);
+    let pattern::ReadResult::Accepted(v) = read else {
+        return answer(read.refusal(), 0);
     };
-    if values.len() < Values::SIZE {
+    if parameters.len() < Parameters::LENGTH {
         return answer(16, 0);
     }
-    let bytes = pattern::values_bytes(v);
-    slices::copy(values, 0, &bytes);
+    let bytes = pattern::encode_parameters(v);
+    slices::copy(parameters, 0, &bytes);
     answer(0, 0)
 }
 
@@ -35,11 +35,11 @@ pub extern "C" fn pf_code(file: &[u8]) -> u32
     ensures { λ r. ⌜ r ≡ codeStretch (now (file .entry)) ⌝ }
 {
     let read = pattern::read(file);
-    let pattern::Answer::Accepted(_) = read else {
+    let pattern::ReadResult::Accepted(_) = read else {
         return 0;
     };
     let code = pattern::code_body(file);
-    stretch(pattern::code_place(file) as u16, code.len() as u16)
+    stretch(pattern::code_offset(file) as u16, code.len() as u16)
 }
 
 // Where the body of `PI` lies in the file.
@@ -48,24 +48,24 @@ pub extern "C" fn pf_input(file: &[u8]) -> u32
     ensures { λ r. ⌜ r ≡ inputStretch (now (file .entry)) ⌝ }
 {
     let read = pattern::read(file);
-    let pattern::Answer::Accepted(_) = read else {
+    let pattern::ReadResult::Accepted(_) = read else {
         return 0;
     };
     let input = pattern::input_body(file);
-    stretch(pattern::input_place(file) as u16, input.len() as u16)
+    stretch(pattern::input_offset(file) as u16, input.len() as u16)
 }
 
 // Writes a file to the buffer's front. The count is its length.
 #[no_mangle]
-pub extern "C" fn pf_write(values: &[u8], image: &[u8], input: &[u8], buffer: &mut [u8]) -> u32
-    ensures { λ r. ⌜ answered r (now (buffer .exit)) ≡ hostWrite (now (values .entry)) (now (image .entry)) (now (input .entry)) (now (buffer .entry)) ⌝ }
+pub extern "C" fn pf_write(parameters: &[u8], image: &[u8], input: &[u8], buffer: &mut [u8]) -> u32
+    ensures { λ r. ⌜ answered r (now (buffer .exit)) ≡ hostWrite (now (parameters .entry)) (now (image .entry)) (now (input .entry)) (now (buffer .entry)) ⌝ }
 {
-    if values.len() != Values::SIZE {
+    if parameters.len() != Parameters::LENGTH {
         return answer(9, 0);
     }
-    let written = pattern::write(pattern::values_at(values), image, input, buffer);
+    let written = pattern::write(pattern::decode_parameters(parameters), image, input, buffer);
     match written {
-        pattern::Written::Length(n) => answer(0, n as u16),
-        pattern::Written::Failed(number) => answer(number, 0),
+        pattern::WriteResult::Length(n) => answer(0, n as u16),
+        pattern::WriteResult::Refused(number) => answer(number, 0),
     }
 }

@@ -8,11 +8,11 @@ use common::Layout;
 use common::Location;
 use slices::byte;
 use slices::copy;
-use slices::pair;
 use slices::put_byte;
-use slices::put_pair;
-use slices::put_quad;
-use slices::quad;
+use slices::put_u16;
+use slices::put_u32;
+use slices::u16_at;
+use slices::u32_at;
 use supervisor::Partition;
 use supervisor::Slot;
 use supervisor::Table;
@@ -23,19 +23,19 @@ const PARTITION_LENGTH: usize = 11;
 const SLOT_LENGTH: usize = PARTITION_LENGTH + encoding::STATE_LENGTH;
 
 // Where the first slot stands.
-const SLOTS_PLACE: usize = 4;
+const SLOTS_OFFSET: usize = 4;
 
 // How many bytes a table has.
-pub(crate) const TABLE_LENGTH: usize = SLOTS_PLACE + Table::SLOTS * SLOT_LENGTH;
+pub(crate) const TABLE_LENGTH: usize = SLOTS_OFFSET + Table::SLOTS * SLOT_LENGTH;
 
 fn decode_partition(bytes: &[u8]) -> Partition
     ensures { λ p. ⌜ p ≡ partitionAt (now (bytes .entry)) ⌝ }
 {
-    let base = Location(quad(bytes, 0));
+    let base = Location(u32_at(bytes, 0));
     let layout = Layout {
-        window: pair(bytes, 4),
-        input: pair(bytes, 6),
-        output: pair(bytes, 8),
+        window: u16_at(bytes, 4),
+        input: u16_at(bytes, 6),
+        output: u16_at(bytes, 8),
     };
     let quantum = byte(bytes, 10);
     Partition {
@@ -58,12 +58,12 @@ fn decode_slot(bytes: &[u8], at: usize) -> Slot
 pub(crate) fn decode_table(bytes: &[u8]) -> Table
     ensures { λ t. ⌜ t ≡ tableAt (now (bytes .entry)) ⌝ }
 {
-    let size = quad(bytes, 0);
-    let first = decode_slot(bytes, SLOTS_PLACE);
+    let size = u32_at(bytes, 0);
+    let first = decode_slot(bytes, SLOTS_OFFSET);
     let mut slots = [first; 8];
     let mut k: usize = 0;
     while k < Table::SLOTS {
-        slots[k] = decode_slot(bytes, SLOTS_PLACE + SLOT_LENGTH * k);
+        slots[k] = decode_slot(bytes, SLOTS_OFFSET + SLOT_LENGTH * k);
         k += 1;
     }
     Table { size, slots }
@@ -76,10 +76,10 @@ fn put_partition(bytes: &mut [u8], at: usize, partition: Partition)
 {
     let base = partition.base;
     let layout = partition.layout;
-    put_quad(bytes, at, base.0);
-    put_pair(bytes, at + 4, layout.window);
-    put_pair(bytes, at + 6, layout.input);
-    put_pair(bytes, at + 8, layout.output);
+    put_u32(bytes, at, base.0);
+    put_u16(bytes, at + 4, layout.window);
+    put_u16(bytes, at + 6, layout.input);
+    put_u16(bytes, at + 8, layout.output);
     put_byte(bytes, at + 10, partition.quantum);
 }
 
@@ -100,11 +100,11 @@ pub(crate) fn encode_table(bytes: &mut [u8], table: Table)
     requires { ⌜ length (now bytes) ≡ tableLength ⌝ }
     ensures { λ _. ⌜ now (bytes .exit) ≡ tableBytes table ⌝ }
 {
-    put_quad(bytes, 0, table.size);
+    put_u32(bytes, 0, table.size);
     let mut k: usize = 0;
     while k < Table::SLOTS {
         let s = table.slots[k];
-        put_slot(bytes, SLOTS_PLACE + SLOT_LENGTH * k, s);
+        put_slot(bytes, SLOTS_OFFSET + SLOT_LENGTH * k, s);
         k += 1;
     }
 }

@@ -7,37 +7,38 @@ use lib.Dec.{eqb}
 use lib.ListN.{length, drop}
 use Rattle.common.specs.Choice.{if_then_else_}
 use Rattle.common.specs.Refusals.{_gives_, refusalBy}
-use Rattle.common.specs.Tests.{within}
-use Rattle.supervisor.specs.Operations.{drainConditions, drainedState, writtenBytes}
-use Rattle.supervisor.specs.Table.{slotWith, isEmpty, slotSound}
+use Rattle.common.specs.Ranges.{within}
+use Rattle.supervisor.specs.Draining.{drainConditions, drainedState, writtenBytes}
+use Rattle.supervisor.specs.Table.{slotWithState, isEmpty}
+use Rattle.supervisor.specs.Sound.{slotSound}
 use Rattle.supervisor.specs.declared.table.Slot.{Slot}
-use Rattle.lend.specs.declared.Drained.{Drained}
-use Rattle.lend.specs.declared.Taken.{Taken}
+use Rattle.lend.specs.declared.lent.SlotAnswer.{SlotAnswer}
+use Rattle.lend.specs.declared.lent.LentAnswer.{LentAnswer}
 
 -- what refuses it: 1 if the memory's length is out of range or the slot breaks a rule of a sound table, disjointness aside, its
 -- partition measured against that memory; then 5; then what refuses a draining
-unfoldable pub slotRefusal : Slot → ℕ → ℕ → ℕ
-slotRefusal s size room = refusalBy ((not (within size 65536 && slotSound size s) gives 1 ∷ isEmpty s gives 5 ∷ []) ++ drainConditions s room)
+unfoldable pub lentRefusal : Slot → ℕ → ℕ → ℕ
+lentRefusal s size room = refusalBy ((not (within size 65536 && slotSound size s) gives 1 ∷ isEmpty s gives 5 ∷ []) ++ drainConditions s room)
 
 -- what it gives and leaves, as one value: the answer with the slot, and the buffer
-pub record Outcome : Type 0 where
-  pub answer : Drained
+pub record LentOutcome : Type 0 where
+  pub answer : SlotAnswer
   pub buffer : List ℕ
 
-abbrev pub drained : Drained → List ℕ → Outcome
-drained a buffer = record { answer = a; buffer = buffer }
+abbrev pub slotOutcome : SlotAnswer → List ℕ → LentOutcome
+slotOutcome a buffer = record { answer = a; buffer = buffer }
 
 -- the same where the slot stands behind a reference
-abbrev pub lent : Taken → Slot → List ℕ → Outcome
-lent t s buffer = drained (record { taken = t; slot = s }) buffer
+abbrev pub lentOutcome : LentAnswer → Slot → List ℕ → LentOutcome
+lentOutcome t s buffer = slotOutcome (record { taken = t; slot = s }) buffer
 
 -- a refusal leaves everything; else it does what draining does
-unfoldable pub drainSlotOf : Slot → List ℕ → List ℕ → Outcome
+unfoldable pub drainSlotOf : Slot → List ℕ → List ℕ → LentOutcome
 drainSlotOf s memory buffer =
-    if eqb (slotRefusal s (length memory) (length buffer)) 0
+    if eqb (lentRefusal s (length memory) (length buffer)) 0
     then
-    lent
+    lentOutcome
     (record { refusal = 0; count = s .state .written })
-    (slotWith s (drainedState (s .state)))
+    (slotWithState s (drainedState (s .state)))
     (writtenBytes s memory ++ drop (s .state .written) buffer)
-    else lent (record { refusal = slotRefusal s (length memory) (length buffer); count = 0 }) s buffer
+    else lentOutcome (record { refusal = lentRefusal s (length memory) (length buffer); count = 0 }) s buffer

@@ -1,5 +1,5 @@
 -- Definitions that must be believed.
 pub mod Lent
 -- Laws that the checker has shown.
-pub mod Alone
-pub mod Agrees
+pub mod AloneLaws
+pub mod AgreementLaws

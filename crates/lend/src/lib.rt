@@ -1,63 +1,7 @@
 // Draining over one slot's record, lent for alteration (document 01, "Floor and bays").
-ghost use mathlib.Core.Path.{_≡_};
-ghost use Rattle.lend.specs.Lent.{drained, drainSlotOf, lent};
-use supervisor::Slot;
-use supervisor::Table;
+mod lent;
 
-// The refusal, 0 for none, and how many bytes were drained.
-pub struct Taken {
-    pub refusal: u8,
-    pub count: usize,
-}
-
-// The same, and the slot: the given one where the call is refused.
-pub struct Drained {
-    pub taken: Taken,
-    pub slot: Slot,
-}
-
-fn refused(refusal: u8, slot: Slot) -> Drained
-    ensures { λ r. ⌜ r ≡ record { taken = record { refusal = refusal; count = 0 }; slot = slot } ⌝ }
-{
-    let taken = Taken { refusal, count: 0 };
-    Drained { taken, slot }
-}
-
-// Drains the slot as the only one of a table: by value, and all of the work.
-pub fn drain_slot(slot: Slot, memory: &[u8], buffer: &mut [u8]) -> Drained
-    ensures { λ r. ⌜ drained r (now (buffer .exit)) ≡ drainSlotOf slot (now (memory .entry)) (now (buffer .entry)) ⌝ }
-{
-    let fresh = Table::new(memory.len());
-    if fresh.refusal != 0 {
-        return refused(1, slot);
-    }
-    let mut alone = fresh.table;
-    alone.slots[0] = slot;
-    let d = supervisor::drain(alone, memory, 0, buffer);
-    let taken = Taken {
-        refusal: d.refusal,
-        count: d.count,
-    };
-    let left = d.table;
-    let slot = left.slots[0];
-    Drained { taken, slot }
-}
-
-// The slot is taken out, drained, and put back.
-pub fn drain_lent(slot: &mut Slot, memory: &[u8], buffer: &mut [u8]) -> Taken
-    ensures { λ r. ⌜ lent r (now (slot .exit)) (now (buffer .exit)) ≡ drainSlotOf (now (slot .entry)) (now (memory .entry)) (now (buffer .entry)) ⌝ }
-{
-    let s = *slot;
-    let d = drain_slot(s, memory, buffer);
-    *slot = d.slot;
-    d.taken
-}
-
-// Lends a slot that is given by value, for callers that keep no reference to one.
-pub fn drain_loan(slot: Slot, memory: &[u8], buffer: &mut [u8]) -> Drained
-    ensures { λ r. ⌜ drained r (now (buffer .exit)) ≡ drainSlotOf slot (now (memory .entry)) (now (buffer .entry)) ⌝ }
-{
-    let mut s = slot;
-    let taken = drain_lent(&mut s, memory, buffer);
-    Drained { taken, slot: s }
-}
+pub use lent::LentAnswer;
+pub use lent::SlotAnswer;
+pub use lent::drain_lent;
+pub use lent::drain_slot;

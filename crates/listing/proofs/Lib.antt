@@ -1,3 +1,3 @@
 -- Laws that only proofs need.
-pub mod Texts
-pub mod Runs
+pub mod PutTextLaws
+pub mod BenchRunLaws

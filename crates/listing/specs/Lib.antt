@@ -1,10 +1,11 @@
 -- Definitions that must be believed, in reading order.
 pub mod Ascii
-pub mod Rounds
+pub mod UntilStopped
 pub mod Text
-pub mod Listing
+pub mod BenchListing
 -- Laws that the checker has shown.
+pub mod TextDefinitions
 pub mod TextLaws
-pub mod RunLaws
-pub mod Lone
+pub mod ListingLaws
+pub mod LoneLaws
 pub mod Cases

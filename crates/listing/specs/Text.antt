@@ -21,8 +21,8 @@ unfoldable pub hexWord : ℕ → List ℕ
 hexWord w = hexByte (w / 256) ++ hexByte (w % 256)
 
 -- a number below 100, which a status and a refusal are, in decimal
-unfoldable pub decimal : ℕ → List ℕ
-decimal n = if ltb n 10 then (code "0" + n) ∷ [] else (code "0" + n / 10) ∷ (code "0" + n % 10) ∷ []
+unfoldable pub decimalDigits : ℕ → List ℕ
+decimalDigits n = if ltb n 10 then (code "0" + n) ∷ [] else (code "0" + n / 10) ∷ (code "0" + n % 10) ∷ []
 
 -- a byte as a field behind another one: a space and two digits
 unfoldable pub field : ℕ → List ℕ
@@ -33,11 +33,11 @@ fields [] = []
 fields (b ∷ rest) = field b ++ fields rest
 
 unfoldable pub refusedLine : ℕ → List ℕ
-refusedLine n = ascii "refused " ++ decimal n ++ ascii "\n"
+refusedLine n = ascii "refused " ++ decimalDigits n ++ ascii "\n"
 
 -- status number, counter, PSU, PSL, R0, R1 to R3 of bank 0, R1 to R3 of bank 1
 unfoldable pub reportLine : Report → List ℕ
-reportLine r = decimal (r .status) ++ ascii " " ++ hexWord (r .counter) ++ fields (r .psu ∷ r .psl ∷ r .registers) ++ ascii "\n"
+reportLine r = decimalDigits (r .status) ++ ascii " " ++ hexWord (r .counter) ++ fields (r .psu ∷ r .psl ∷ r .registers) ++ ascii "\n"
 
 -- `out` and each byte; `out` alone if there is none
 unfoldable pub outputLine : List ℕ → List ℕ

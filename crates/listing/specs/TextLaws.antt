@@ -9,7 +9,7 @@ use borrow.Author.Tests.{lt-ltb, le-ltb}
 use lib.ListN.{length, getD, take, length-append}
 use lib.Seq.{take-suc}
 use Rattle.common.specs.Choice.{if_then_else_}
-use Rattle.listing.specs.Text.{hexByte, decimal, field, fields}
+use Rattle.listing.specs.Text.{hexByte, decimalDigits, field, fields}
 
 pub field-length : (b : ℕ) → length (field b) ≡ 3
 unfolding field hexByte
@@ -35,17 +35,17 @@ fields-more l i h =
     ∙ ap (λ (z : List ℕ). fields (take i l) ++ z) (append-nil (field (getD l i 0)))
 
 -- a number below 10 is one digit, and the others are two
-pub one-digit : (n : ℕ) → n < 10 → decimal n ≡ (48 + n) ∷ []
-unfolding decimal if_then_else_
+pub one-digit : (n : ℕ) → n < 10 → decimalDigits n ≡ (48 + n) ∷ []
+unfolding decimalDigits if_then_else_
 one-digit n h = rw (lt-ltb n 10 h)
 
-pub two-digits : (n : ℕ) → 10 ≤ n → decimal n ≡ (48 + n / 10) ∷ (48 + n % 10) ∷ []
-unfolding decimal if_then_else_
+pub two-digits : (n : ℕ) → 10 ≤ n → decimalDigits n ≡ (48 + n / 10) ∷ (48 + n % 10) ∷ []
+unfolding decimalDigits if_then_else_
 two-digits n h = rw (le-ltb n 10 h)
 
-pub decimal-short : (n : ℕ) → length (decimal n) ≤ 2
-decimal-short n = go (decLt n 10)
+pub decimal-digits-short : (n : ℕ) → length (decimalDigits n) ≤ 2
+decimal-digits-short n = go (decLt n 10)
   where
-    go : Dec (n < 10) → length (decimal n) ≤ 2
-    go (yes p) = let h : length (decimal n) ≡ 1 = ap length (one-digit n p) in omega arith
-    go (no p) = let h : length (decimal n) ≡ 2 = ap length (two-digits n (omega arith)) in omega arith
+    go : Dec (n < 10) → length (decimalDigits n) ≤ 2
+    go (yes p) = let h : length (decimalDigits n) ≡ 1 = ap length (one-digit n p) in omega arith
+    go (no p) = let h : length (decimalDigits n) ≡ 2 = ap length (two-digits n (omega arith)) in omega arith

@@ -1,6 +1,5 @@
 // From a pattern file to a fresh machine: its state, and the bytes of its partition.
-mod bytes;
-mod state;
+mod fresh;
 
-pub use bytes::put;
-pub use state::fresh;
+pub use fresh::fresh_state;
+pub use fresh::put_fresh_bytes;

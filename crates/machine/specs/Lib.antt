@@ -1,2 +1,2 @@
 -- Definitions that must be believed.
-pub mod Run
+pub mod MachineRun

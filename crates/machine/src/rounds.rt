@@ -6,7 +6,7 @@ use common::Layout;
 use cpu::State;
 
 // So many rounds of a quantum each, until the machine stops; its state stays in a local from one to the next.
-pub(crate) fn run(
+pub(crate) fn run_rounds(
     state: State,
     partition: &mut [u8],
     layout: Layout,

@@ -5,33 +5,33 @@ use mathlib.Core.List.{List, [], _∷_, _++_}
 use lib.ListN.{length, getD, drop}
 use lib.Dec.{leb, eqb}
 use Rattle.common.specs.Tests.{all}
-use Rattle.slices.specs.Numbers.{pairOf, pairAt}
+use Rattle.slices.specs.Numbers.{u16Bytes, u16At}
 use Rattle.slices.specs.Slices.{partOf}
 
 -- how many bytes stand in front of a body
-abbrev pub frameSize : ℕ
-frameSize = 4
+abbrev pub frameLength : ℕ
+frameLength = 4
 
 -- the record of the mark `P` (50h) and m, with that body
 unfoldable pub recordOf : ℕ → List ℕ → List ℕ
-recordOf m body = (0x50 ∷ m ∷ pairOf (length body)) ++ body
+recordOf m body = (0x50 ∷ m ∷ u16Bytes (length body)) ++ body
 
 -- of the record at the front of s: the length that it gives its body, the body, its whole length, and what follows it
 unfoldable pub bodyLength : List ℕ → ℕ
-bodyLength s = pairAt s 2
+bodyLength s = u16At s 2
 
 unfoldable pub bodyOf : List ℕ → List ℕ
-bodyOf s = partOf s frameSize (bodyLength s)
+bodyOf s = partOf s frameLength (bodyLength s)
 
-abbrev pub recordSize : List ℕ → ℕ
-recordSize s = bodyLength s + frameSize
+abbrev pub recordLength : List ℕ → ℕ
+recordLength s = bodyLength s + frameLength
 
 unfoldable pub afterRecord : List ℕ → List ℕ
-afterRecord s = drop (recordSize s) s
+afterRecord s = drop (recordLength s) s
 
 -- the record at the front of s has the mark `P` and m, and its body is inside s
 unfoldable pub framed : ℕ → List ℕ → Bool
-framed m s = all (eqb (getD s 0 0) 0x50 ∷ eqb (getD s 1 0) m ∷ leb (recordSize s) (length s) ∷ [])
+framed m s = all (eqb (getD s 0 0) 0x50 ∷ eqb (getD s 1 0) m ∷ leb (recordLength s) (length s) ∷ [])
 
 -- the same, with a body of n bytes
 abbrev pub fixed : ℕ → ℕ → List ℕ → Bool

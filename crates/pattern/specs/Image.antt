@@ -7,14 +7,14 @@ use lib.Dec.{eqb}
 use Rattle.common.specs.Choice.{if_then_else_}
 
 -- x in front of a trimmed list
-abbrev pub keep : ℕ → List ℕ → List ℕ
-keep x (y ∷ ys) = x ∷ y ∷ ys
-keep x [] = if eqb x 0 then [] else x ∷ []
+abbrev pub consTrimmed : ℕ → List ℕ → List ℕ
+consTrimmed x (y ∷ ys) = x ∷ y ∷ ys
+consTrimmed x [] = if eqb x 0 then [] else x ∷ []
 
 -- a list without its trailing zeros
 unfoldable pub trim : List ℕ → List ℕ
 trim [] = []
-trim (x ∷ xs) = keep x (trim xs)
+trim (x ∷ xs) = consTrimmed x (trim xs)
 
 -- the window of n bytes that starts with the code, the rest zero
 abbrev pub padded : ℕ → List ℕ → List ℕ

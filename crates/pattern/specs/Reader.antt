@@ -6,19 +6,19 @@ use mathlib.Core.Path.{_≡_}
 use lib.ListN.{length, getD}
 use lib.Dec.{ltb, eqb}
 use Rattle.common.specs.Refusals.{Condition, _gives_, unless}
-use Rattle.pattern.specs.Values.{inRange, partitionSize, valuesAt}
-use Rattle.pattern.specs.Frame.{frameSize, bodyLength, bodyOf, recordSize, afterRecord, framed, fixed}
+use Rattle.pattern.specs.Parameters.{inRange, parametersLength, parametersAt}
+use Rattle.pattern.specs.Frame.{frameLength, bodyLength, bodyOf, recordLength, afterRecord, framed, fixed}
 use Rattle.pattern.specs.Image.{padded, endsInZero}
-use Rattle.pattern.specs.declared.values.Values.{Values}
-use Rattle.pattern.specs.declared.reader.Answer.{Answer}
-use Rattle.pattern.specs.declared.reader.Answer.the-variants.{Accepted, Refused}
+use Rattle.pattern.specs.declared.parameters.Parameters.{Parameters}
+use Rattle.pattern.specs.declared.reader.ReadResult.{ReadResult}
+use Rattle.pattern.specs.declared.reader.ReadResult.the-variants.{Accepted, Refused}
 
 -- the file from each record on: `PV` stands at its front
-abbrev pub fromPartition : List ℕ → List ℕ
-fromPartition s = afterRecord s
+abbrev pub fromParameters : List ℕ → List ℕ
+fromParameters s = afterRecord s
 
 abbrev pub fromCode : List ℕ → List ℕ
-fromCode s = afterRecord (fromPartition s)
+fromCode s = afterRecord (fromParameters s)
 
 abbrev pub fromInput : List ℕ → List ℕ
 fromInput s = afterRecord (fromCode s)
@@ -33,36 +33,36 @@ formIn s = getD (bodyOf s) 0 0
 abbrev pub boardIn : List ℕ → ℕ
 boardIn s = getD (bodyOf s) 1 0
 
--- the values in the body of `PB` at the front of s, in a file of that form
-abbrev pub valuesIn : ℕ → List ℕ → Values
-valuesIn form s = valuesAt (bodyOf s)
+-- the parameters in the body of `PB` at the front of s, in a file of that form
+abbrev pub parametersIn : ℕ → List ℕ → Parameters
+parametersIn form s = parametersAt (bodyOf s)
 
--- before `PB` is read there are no values
-abbrev pub noValues : Values
-noValues = record { layout = record { window = 0; input = 0; output = 0 }; start = record { 0 = 0 }; quantum = 0 }
+-- before `PB` is read there are no parameters
+abbrev pub noParameters : Parameters
+noParameters = record { layout = record { window = 0; input = 0; output = 0 }; start = record { 0 = 0 }; quantum = 0 }
 
 -- the length of the body of `PV`
-abbrev pub versionSize : ℕ
-versionSize = 2
+abbrev pub versionLength : ℕ
+versionLength = 2
 
 -- what refuses each record, at the front of s, in order
 -- `PV` (50h 56h): form 1, board 1
 unfoldable pub versionConditions : List ℕ → List Condition
 versionConditions s =
-    not (fixed 0x56 versionSize s) gives 6
+    not (fixed 0x56 versionLength s) gives 6
     ∷ not (eqb (formIn s) 1) gives 7
     ∷ not (eqb (boardIn s) 1) gives 8
     ∷ []
 
--- `PB` (50h 42h): the values
-unfoldable pub partitionConditions : ℕ → List ℕ → List Condition
-partitionConditions form s =
-    not (fixed 0x42 (partitionSize form) s) gives 6
-    ∷ not (inRange (valuesIn form s)) gives 9
+-- `PB` (50h 42h): the parameters
+unfoldable pub parametersConditions : ℕ → List ℕ → List Condition
+parametersConditions form s =
+    not (fixed 0x42 (parametersLength form) s) gives 6
+    ∷ not (inRange (parametersIn form s)) gives 9
     ∷ []
 
 -- `PC` (50h 43h): at most the window size; empty, or its last byte not zero
-unfoldable pub codeConditions : Values → List ℕ → List Condition
+unfoldable pub codeConditions : Parameters → List ℕ → List Condition
 codeConditions v s =
     not (framed 0x43 s) gives 6
     ∷ ltb (v .layout .window) (bodyLength s) gives 10
@@ -70,7 +70,7 @@ codeConditions v s =
     ∷ []
 
 -- `PI` (50h 49h): at most the input capacity
-unfoldable pub inputConditions : Values → List ℕ → List Condition
+unfoldable pub inputConditions : Parameters → List ℕ → List Condition
 inputConditions v s =
     not (framed 0x49 s) gives 6
     ∷ ltb (v .layout .input) (bodyLength s) gives 11
@@ -80,29 +80,29 @@ inputConditions v s =
 unfoldable pub endConditions : List ℕ → List Condition
 endConditions s =
     not (fixed 0x45 0 s) gives 6
-    ∷ ltb frameSize (length s) gives 6
+    ∷ ltb frameLength (length s) gives 6
     ∷ []
 
--- the values in a file
-abbrev pub valuesOf : List ℕ → Values
-valuesOf s = valuesIn (formIn s) (fromPartition s)
+-- the parameters in a file
+abbrev pub parametersOf : List ℕ → Parameters
+parametersOf s = parametersIn (formIn s) (fromParameters s)
 
 -- what reading a file answers: a record's frame is checked, then its body, then the next record
-unfoldable pub readOf : List ℕ → Answer
+unfoldable pub readOf : List ℕ → ReadResult
 readOf s =
     unless Refused (versionConditions s)
-    (unless Refused (partitionConditions (formIn s) (fromPartition s))
-    (unless Refused (codeConditions (valuesOf s) (fromCode s))
-    (unless Refused (inputConditions (valuesOf s) (fromInput s))
-    (unless Refused (endConditions (fromEnd s)) (Accepted (valuesOf s))))))
+    (unless Refused (parametersConditions (formIn s) (fromParameters s))
+    (unless Refused (codeConditions (parametersOf s) (fromCode s))
+    (unless Refused (inputConditions (parametersOf s) (fromInput s))
+    (unless Refused (endConditions (fromEnd s)) (Accepted (parametersOf s))))))
 
 -- the number of a refusal, 0 where there is none
-abbrev pub refusalOf : Answer → ℕ
-refusalOf (Accepted v) = 0
-refusalOf (Refused n) = n
+abbrev pub readRefusal : ReadResult → ℕ
+readRefusal (Accepted v) = 0
+readRefusal (Refused n) = n
 
 -- that body if the file is accepted, else an empty one
-abbrev pub ifAccepted : Answer → List ℕ → List ℕ
+abbrev pub ifAccepted : ReadResult → List ℕ → List ℕ
 ifAccepted (Accepted v) body = body
 ifAccepted (Refused n) body = []
 
@@ -114,18 +114,18 @@ unfoldable pub inputOf : List ℕ → List ℕ
 inputOf s = ifAccepted (readOf s) (bodyOf (fromInput s))
 
 -- where these bodies start in the file: each record stands behind the ones before it
-abbrev pub codePlace : List ℕ → ℕ
-codePlace s = recordSize s + recordSize (fromPartition s) + frameSize
+abbrev pub codeOffset : List ℕ → ℕ
+codeOffset s = recordLength s + recordLength (fromParameters s) + frameLength
 
-abbrev pub inputPlace : List ℕ → ℕ
-inputPlace s = recordSize s + recordSize (fromPartition s) + recordSize (fromCode s) + frameSize
+abbrev pub inputOffset : List ℕ → ℕ
+inputOffset s = recordLength s + recordLength (fromParameters s) + recordLength (fromCode s) + frameLength
 
 -- the window of an accepted file: the code from address 0, the rest zero
 abbrev pub imageOf : List ℕ → List ℕ
-imageOf s = padded (valuesOf s .layout .window) (codeOf s)
+imageOf s = padded (parametersOf s .layout .window) (codeOf s)
 
--- s is accepted, and it is a file of the pattern of those values, window and first input
-pub record IsFile (s : List ℕ) (v : Values) (image input : List ℕ) : Type 0 where
-  pub values : readOf s ≡ Accepted v
+-- s is accepted, and it is a file of the pattern of those parameters, window and first input
+pub record IsFile (s : List ℕ) (v : Parameters) (image input : List ℕ) : Type 0 where
+  pub parameters : readOf s ≡ Accepted v
   pub window : imageOf s ≡ image
   pub first : inputOf s ≡ input

@@ -8,89 +8,89 @@ use native.Mathlib.Omega.{arith}
 use lib.ListN.{length, take, drop, replicate, length-replicate}
 use lib.Seq.{take-at}
 use Rattle.slices.specs.Slices.{Bytes}
-use Rattle.pattern.specs.Values.{inRange, formOf}
+use Rattle.pattern.specs.Parameters.{inRange, formOf}
 use Rattle.pattern.specs.Image.{trim, padded, endsInZero}
-use Rattle.pattern.specs.Reader.{valuesOf, readOf, codeOf, inputOf, imageOf, IsFile}
-use Rattle.pattern.specs.Writer.{recordsOf, smallestSize, fileOf, writeOf, leftBy, bufferOf}
+use Rattle.pattern.specs.Reader.{parametersOf, readOf, codeOf, inputOf, imageOf, IsFile}
+use Rattle.pattern.specs.Writer.{recordsOf, smallestLength, fileOf, writeOf, bufferAfter, writtenBuffer}
 use Rattle.pattern.specs.ImageLaws.{trim-short, trim-ends, trim-kept, replicate-ends, padded-trim, padded-length, trim-padded}
-use Rattle.pattern.specs.ReaderLaws.{file-is, read-in-range, read-ranges, code-fits, input-fits, code-ends}
+use Rattle.pattern.specs.ReaderLaws.{accepted-file, read-in-range, read-ranges, code-fits, input-fits, code-ends}
 use Rattle.pattern.specs.WriterLaws.{file-length, written-accepted, accepted-written}
-use Rattle.pattern.specs.RoundTrip.{read-records, code-of-records, input-of-records, records-again}
-use Rattle.pattern.specs.declared.values.Values.{Values}
-use Rattle.pattern.specs.declared.reader.Answer.the-variants.{Accepted}
-use Rattle.pattern.specs.declared.writer.Written.{Written}
-use Rattle.pattern.specs.declared.writer.Written.the-variants.{Length}
+use Rattle.pattern.specs.RoundTripLaws.{read-records, code-of-records, input-of-records, records-again}
+use Rattle.pattern.specs.declared.parameters.Parameters.{Parameters}
+use Rattle.pattern.specs.declared.reader.ReadResult.the-variants.{Accepted}
+use Rattle.pattern.specs.declared.writer.WriteResult.{WriteResult}
+use Rattle.pattern.specs.declared.writer.WriteResult.the-variants.{Length}
 
--- a pattern that can be written: its values are in range, the image fills the window, the input fits
-module _ (v : Values) (image input : List ℕ) (range : inRange v ≡ true) (whole : length image ≡ v .layout .window) (few : length input ≤ v .layout .input) where
+-- a pattern that can be written: its parameters are in range, the image fills the window, the input fits
+module _ (v : Parameters) (image input : List ℕ) (range : inRange v ≡ true) (whole : length image ≡ v .layout .window) (few : length input ≤ v .layout .input) where
   short : length (trim image) ≤ v .layout .window
   short = omega (arith, trim-short image)
 
   file-code : codeOf (fileOf v image input) ≡ trim image
   file-code = code-of-records v (trim image) input range short (trim-ends image) few
 
-  file-values : readOf (fileOf v image input) ≡ Accepted v
-  file-values = read-records v (trim image) input range short (trim-ends image) few
+  file-parameters : readOf (fileOf v image input) ≡ Accepted v
+  file-parameters = read-records v (trim image) input range short (trim-ends image) few
 
-  -- its file is accepted, and has its values, its window and its input
+  -- its file is accepted, and has its parameters, its window and its input
   pub file-is-file : IsFile (fileOf v image input) v image input
   file-is-file =
       record {
-        values = file-values;
+        parameters = file-parameters;
         window =
-            ap (λ (w : Values). padded (w .layout .window) (codeOf (fileOf v image input))) (file-is (fileOf v image input) v file-values .same)
+            ap (λ (w : Parameters). padded (w .layout .window) (codeOf (fileOf v image input))) (accepted-file (fileOf v image input) v file-parameters .same)
             ∙ ap (padded (v .layout .window)) file-code
             ∙ ap (λ (n : ℕ). padded n (trim image)) (sym whole)
             ∙ padded-trim image;
         first = input-of-records v (trim image) input range short (trim-ends image) few;
       }
 
--- reading what was written gives the same values, code and input: the first n bytes of the buffer, where writing answered the length n
-pub read-written : (v : Values) (image input buffer : List ℕ) (n : ℕ) → writeOf v image input (length buffer) ≡ Length n
-    → IsFile (take n (bufferOf v image input buffer)) v image input × (codeOf (take n (bufferOf v image input buffer)) ≡ trim image)
+-- reading what was written gives the same parameters, code and input: the first n bytes of the buffer, where writing answered the length n
+pub read-written : (v : Parameters) (image input buffer : List ℕ) (n : ℕ) → writeOf v image input (length buffer) ≡ Length n
+    → IsFile (take n (writtenBuffer v image input buffer)) v image input × (codeOf (take n (writtenBuffer v image input buffer)) ≡ trim image)
 read-written v image input buffer n h =
     let w = accepted-written v image input (length buffer) n h in
     let file : List ℕ = fileOf v image input in
-    let front : take n (bufferOf v image input buffer) ≡ file =
-    ap (λ (x : Written). take n (leftBy x file buffer)) h ∙ take-at file (drop n buffer) n (w .1)
+    let front : take n (writtenBuffer v image input buffer) ≡ file =
+    ap (λ (x : WriteResult). take n (bufferAfter x file buffer)) h ∙ take-at file (drop n buffer) n (w .1)
     in (
       subst (λ (s : List ℕ). IsFile s v image input) (sym front) (file-is-file v image input (w .0 .range) (w .0 .whole) (w .0 .few)),
       ap codeOf front ∙ file-code v image input (w .0 .range) (w .0 .whole) (w .0 .few),
     )
 
 -- an accepted file, of bytes
-module _ (s : List ℕ) (v : Values) (bytes : Bytes s) (accepted : readOf s ≡ Accepted v) where
-  window-of : valuesOf s .layout .window ≡ v .layout .window
-  window-of = ap (λ (w : Values). w .layout .window) (file-is s v accepted .same)
+module _ (s : List ℕ) (v : Parameters) (bytes : Bytes s) (accepted : readOf s ≡ Accepted v) where
+  window-of : parametersOf s .layout .window ≡ v .layout .window
+  window-of = ap (λ (w : Parameters). w .layout .window) (accepted-file s v accepted .same)
 
   -- is the file of its pattern
   pub file-again : fileOf v (imageOf s) (inputOf s) ≡ s
   file-again =
-      ap (λ (code : List ℕ). recordsOf v code (inputOf s)) (trim-padded (valuesOf s .layout .window) (codeOf s) (code-ends s v accepted))
+      ap (λ (code : List ℕ). recordsOf v code (inputOf s)) (trim-padded (parametersOf s .layout .window) (codeOf s) (code-ends s v accepted))
       ∙ records-again s v bytes accepted
 
   -- written again into a buffer with room, it has the same bytes, and the rest of the buffer is left
   pub written-again : (buffer : List ℕ) → length s ≤ length buffer
       → (writeOf v (imageOf s) (inputOf s) (length buffer) ≡ Length (length s))
-      × (bufferOf v (imageOf s) (inputOf s) buffer ≡ s ++ drop (length s) buffer)
+      × (writtenBuffer v (imageOf s) (inputOf s) buffer ≡ s ++ drop (length s) buffer)
   written-again buffer room =
       let size : length (fileOf v (imageOf s) (inputOf s)) ≡ length s = ap length file-again in
-      let fits : length (codeOf s) ≤ valuesOf s .layout .window = omega (arith, code-fits s v accepted, window-of) in
+      let fits : length (codeOf s) ≤ parametersOf s .layout .window = omega (arith, code-fits s v accepted, window-of) in
       let e : writeOf v (imageOf s) (inputOf s) (length buffer) ≡ Length (length s) =
       written-accepted v (imageOf s) (inputOf s) (length buffer) (record {
         range = read-in-range s v accepted;
-        whole = padded-length (valuesOf s .layout .window) (codeOf s) fits ∙ window-of;
+        whole = padded-length (parametersOf s .layout .window) (codeOf s) fits ∙ window-of;
         few = input-fits s v accepted;
         fits = omega arith;
       })
       ∙ ap Length size
       in (
         e,
-        ap (λ (x : Written). leftBy x (fileOf v (imageOf s) (inputOf s)) buffer) e ∙ ap (λ (l : List ℕ). l ++ drop (length s) buffer) file-again,
+        ap (λ (x : WriteResult). bufferAfter x (fileOf v (imageOf s) (inputOf s)) buffer) e ∙ ap (λ (l : List ℕ). l ++ drop (length s) buffer) file-again,
       )
 
   -- its length is that of its two bodies and of the smallest file
-  pub accepted-length : length s ≡ smallestSize (formOf v) + length (codeOf s) + length (inputOf s)
+  pub accepted-length : length s ≡ smallestLength (formOf v) + length (codeOf s) + length (inputOf s)
   accepted-length = sym (ap length (records-again s v bytes accepted)) ∙ file-length v (codeOf s) (inputOf s)
 
   pub smallest : 31 ≤ length s
@@ -100,16 +100,16 @@ module _ (s : List ℕ) (v : Values) (bytes : Bytes s) (accepted : readOf s ≡ 
   largest = omega (arith, accepted-length, read-ranges s v accepted, code-fits s v accepted, input-fits s v accepted)
 
 -- two accepted files of one pattern are the same file
-pub one-file : (s t : List ℕ) (v : Values) (image input : List ℕ) → Bytes s → Bytes t → IsFile s v image input → IsFile t v image input → s ≡ t
+pub one-file : (s t : List ℕ) (v : Parameters) (image input : List ℕ) → Bytes s → Bytes t → IsFile s v image input → IsFile t v image input → s ≡ t
 one-file s t v image input bs bt hs ht =
-    let es : fileOf v (imageOf s) (inputOf s) ≡ s = file-again s v bs (hs .values) in
-    let et : fileOf v (imageOf t) (inputOf t) ≡ t = file-again t v bt (ht .values) in
+    let es : fileOf v (imageOf s) (inputOf s) ≡ s = file-again s v bs (hs .parameters) in
+    let et : fileOf v (imageOf t) (inputOf t) ≡ t = file-again t v bt (ht .parameters) in
     let window : imageOf s ≡ imageOf t = hs .window ∙ sym (ht .window) in
     let first : inputOf s ≡ inputOf t = hs .first ∙ sym (ht .first) in
     sym es ∙ ap (λ (x : List ℕ). fileOf v x (inputOf s)) window ∙ ap (fileOf v (imageOf t)) first ∙ et
 
 -- both bounds are reached: by a window of zeros without input, and by the largest window, with no zero in it, and the largest input
-pub smallest-reached : (v : Values) → inRange v ≡ true
+pub smallest-reached : (v : Parameters) → inRange v ≡ true
     → IsFile (fileOf v (replicate (v .layout .window) 0) []) v (replicate (v .layout .window) 0) [] × (length (fileOf v (replicate (v .layout .window) 0) []) ≡ 31)
 unfolding endsInZero
 smallest-reached v range =
@@ -117,10 +117,10 @@ smallest-reached v range =
     let k : n ≡ n - 0 = omega arith in
     let none : trim (replicate n 0) ≡ [] = ap (λ (i : ℕ). trim (replicate i 0)) k ∙ trim-padded n [] refl in (
       file-is-file v (replicate n 0) [] range (length-replicate n 0) (omega arith),
-      file-length v (trim (replicate n 0)) [] ∙ ap (λ (code : List ℕ). smallestSize (formOf v) + length code + 0) none,
+      file-length v (trim (replicate n 0)) [] ∙ ap (λ (code : List ℕ). smallestLength (formOf v) + length code + 0) none,
     )
 
-pub largest-reached : (v : Values) → inRange v ≡ true → v .layout .window ≡ 32768 → v .layout .input ≡ 4096
+pub largest-reached : (v : Parameters) → inRange v ≡ true → v .layout .window ≡ 32768 → v .layout .input ≡ 4096
     → IsFile (fileOf v (replicate (v .layout .window) 1) (replicate (v .layout .input) 0)) v (replicate (v .layout .window) 1) (replicate (v .layout .input) 0)
     × (length (fileOf v (replicate (v .layout .window) 1) (replicate (v .layout .input) 0)) ≡ 36895)
 largest-reached v range window input =

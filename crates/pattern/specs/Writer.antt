@@ -4,26 +4,26 @@ use mathlib.Core.Bool.{not}
 use mathlib.Core.List.{List, [], _∷_, _++_}
 use lib.ListN.{length, drop}
 use lib.Dec.{ltb, eqb}
-use Rattle.slices.specs.Slices.{joined}
+use Rattle.slices.specs.Slices.{concat}
 use Rattle.common.specs.Refusals.{Condition, _gives_, unless}
-use Rattle.pattern.specs.Values.{inRange, formOf, partitionSize, valuesBytes}
-use Rattle.pattern.specs.Frame.{frameSize, recordOf}
+use Rattle.pattern.specs.Parameters.{inRange, formOf, parametersLength, parametersBytes}
+use Rattle.pattern.specs.Frame.{frameLength, recordOf}
 use Rattle.pattern.specs.Image.{trim}
-use Rattle.pattern.specs.Reader.{versionSize}
-use Rattle.pattern.specs.declared.values.Values.{Values}
-use Rattle.pattern.specs.declared.writer.Written.{Written}
-use Rattle.pattern.specs.declared.writer.Written.the-variants.{Length, Failed}
+use Rattle.pattern.specs.Reader.{versionLength}
+use Rattle.pattern.specs.declared.parameters.Parameters.{Parameters}
+use Rattle.pattern.specs.declared.writer.WriteResult.{WriteResult}
+use Rattle.pattern.specs.declared.writer.WriteResult.the-variants.{Length, Refused}
 
 -- the body of `PV`: form and board
-abbrev pub versionBody : Values → List ℕ
+abbrev pub versionBody : Parameters → List ℕ
 versionBody v = formOf v ∷ 1 ∷ []
 
 -- the five records, with these bodies of `PC` and `PI`
-unfoldable pub recordsOf : Values → List ℕ → List ℕ → List ℕ
+unfoldable pub recordsOf : Parameters → List ℕ → List ℕ → List ℕ
 recordsOf v code input =
-    joined (
+    concat (
     recordOf 0x56 (versionBody v)
-    ∷ recordOf 0x42 (valuesBytes v)
+    ∷ recordOf 0x42 (parametersBytes v)
     ∷ recordOf 0x43 code
     ∷ recordOf 0x49 input
     ∷ recordOf 0x45 []
@@ -31,15 +31,15 @@ recordsOf v code input =
     )
 
 -- how much of a file of that form is not in these two bodies: the length of the smallest file
-abbrev pub smallestSize : ℕ → ℕ
-smallestSize form = 5 * frameSize + versionSize + partitionSize form
+abbrev pub smallestLength : ℕ → ℕ
+smallestLength form = 5 * frameLength + versionLength + parametersLength form
 
--- the file of the pattern of those values, window and first input
-abbrev pub fileOf : Values → List ℕ → List ℕ → List ℕ
+-- the file of the pattern of those parameters, window and first input
+abbrev pub fileOf : Parameters → List ℕ → List ℕ → List ℕ
 fileOf v image input = recordsOf v (trim image) input
 
 -- what refuses the writing into a buffer of that length, in order
-unfoldable pub writeConditions : Values → List ℕ → List ℕ → ℕ → List Condition
+unfoldable pub writeConditions : Parameters → List ℕ → List ℕ → ℕ → List Condition
 writeConditions v image input room =
     not (inRange v) gives 9
     ∷ not (eqb (length image) (v .layout .window)) gives 9
@@ -48,19 +48,19 @@ writeConditions v image input room =
     ∷ []
 
 -- what writing answers: the file's length, or the refusal
-unfoldable pub writeOf : Values → List ℕ → List ℕ → ℕ → Written
-writeOf v image input room = unless Failed (writeConditions v image input room) (Length (length (fileOf v image input)))
+unfoldable pub writeOf : Parameters → List ℕ → List ℕ → ℕ → WriteResult
+writeOf v image input room = unless Refused (writeConditions v image input room) (Length (length (fileOf v image input)))
 
 -- the number of a refusal, 0 where there is none
-abbrev pub failureOf : Written → ℕ
-failureOf (Length n) = 0
-failureOf (Failed n) = n
+abbrev pub writeRefusal : WriteResult → ℕ
+writeRefusal (Length n) = 0
+writeRefusal (Refused n) = n
 
 -- the buffer after that answer: the file at its front and the rest left, or all of it left
-abbrev pub leftBy : Written → List ℕ → List ℕ → List ℕ
-leftBy (Length n) file d = file ++ drop n d
-leftBy (Failed n) file d = d
+abbrev pub bufferAfter : WriteResult → List ℕ → List ℕ → List ℕ
+bufferAfter (Length n) file d = file ++ drop n d
+bufferAfter (Refused n) file d = d
 
 -- what the buffer d holds after the writing
-abbrev pub bufferOf : Values → List ℕ → List ℕ → List ℕ → List ℕ
-bufferOf v image input d = leftBy (writeOf v image input (length d)) (fileOf v image input) d
+abbrev pub writtenBuffer : Parameters → List ℕ → List ℕ → List ℕ → List ℕ
+writtenBuffer v image input d = bufferAfter (writeOf v image input (length d)) (fileOf v image input) d

@@ -1,18 +1,18 @@
 // Reading a pattern file: each record's frame, then its body, then the next record.
 use crate::frame::BOARD;
 use crate::frame::FORM;
-use crate::frame::FRAME_SIZE;
-use crate::frame::VERSION_SIZE;
+use crate::frame::FRAME_LENGTH;
+use crate::frame::VERSION_LENGTH;
 use crate::frame::after_record;
 use crate::frame::body;
 use crate::frame::body_length;
 use crate::frame::is_fixed;
 use crate::frame::is_framed;
-use crate::frame::record_size;
+use crate::frame::record_length;
 use crate::image::ends_in_zero;
-use crate::values::Values;
-use crate::values::in_range;
-use crate::values::values_at;
+use crate::parameters::Parameters;
+use crate::parameters::decode_parameters;
+use crate::parameters::in_range;
 use common::Address;
 use common::Layout;
 use slices::byte;
@@ -20,44 +20,46 @@ use slices::front;
 ghost use mathlib.Core.Path.{_≡_};
 ghost use Rattle.common.specs.Refusals.{unless};
 ghost use Rattle.pattern.specs.Frame.{bodyOf};
-ghost use Rattle.pattern.specs.Reader.{noValues, valuesIn, versionConditions, partitionConditions, codeConditions, inputConditions, endConditions, readOf, refusalOf, ifAccepted, codeOf, inputOf, codePlace, inputPlace};
+ghost use Rattle.pattern.specs.Reader.{noParameters, parametersIn, versionConditions, parametersConditions, codeConditions, inputConditions, endConditions, readOf, readRefusal, ifAccepted, codeOf, inputOf, codeOffset, inputOffset};
 
-// The values, or the number of the refusal.
-pub enum Answer {
-    Accepted(Values),
+// The parameters, or the number of the refusal.
+pub enum ReadResult {
+    Accepted(Parameters),
     Refused(u8),
 }
 
-// The number of a refusal, 0 for none.
-pub fn refusal(answer: Answer) -> u8
-    ensures { λ r. ⌜ r ≡ refusalOf answer ⌝ }
-{
-    match answer {
-        Answer::Accepted(_) => 0,
-        Answer::Refused(number) => number,
+impl ReadResult {
+    // The number of the refusal, 0 for none.
+    pub fn refusal(self) -> u8
+        ensures { λ r. ⌜ r ≡ readRefusal self ⌝ }
+    {
+        match self {
+            ReadResult::Accepted(_) => 0,
+            ReadResult::Refused(number) => number,
+        }
     }
 }
 
 // The record `PV` at the front of `s`.
-fn version(s: &[u8]) -> Answer
-    ensures { λ r. ⌜ r ≡ unless Answer.Refused (versionConditions (now (s .entry))) (Answer.Accepted noValues) ⌝ }
+fn read_version(s: &[u8]) -> ReadResult
+    ensures { λ r. ⌜ r ≡ unless ReadResult.Refused (versionConditions (now (s .entry))) (ReadResult.Accepted noParameters) ⌝ }
 {
-    if !is_fixed(s, b'V', VERSION_SIZE) {
-        return Answer::Refused(6);
+    if !is_fixed(s, b'V', VERSION_LENGTH) {
+        return ReadResult::Refused(6);
     }
     let named = body(s);
     if byte(named, 0) != FORM {
-        return Answer::Refused(7);
+        return ReadResult::Refused(7);
     }
     if byte(named, 1) != BOARD {
-        return Answer::Refused(8);
+        return ReadResult::Refused(8);
     }
     let layout = Layout {
         window: 0,
         input: 0,
         output: 0,
     };
-    Answer::Accepted(Values {
+    ReadResult::Accepted(Parameters {
         layout,
         start: Address(0),
         quantum: 0,
@@ -65,91 +67,91 @@ fn version(s: &[u8]) -> Answer
 }
 
 // The record `PB` at the front of `s`.
-fn partition(s: &[u8]) -> Answer
-    ensures { λ r. ⌜ r ≡ unless Answer.Refused (partitionConditions 1 (now (s .entry))) (Answer.Accepted (valuesIn 1 (now (s .entry)))) ⌝ }
+fn read_parameters(s: &[u8]) -> ReadResult
+    ensures { λ r. ⌜ r ≡ unless ReadResult.Refused (parametersConditions 1 (now (s .entry))) (ReadResult.Accepted (parametersIn 1 (now (s .entry)))) ⌝ }
 {
-    if !is_fixed(s, b'B', Values::SIZE) {
-        return Answer::Refused(6);
+    if !is_fixed(s, b'B', Parameters::LENGTH) {
+        return ReadResult::Refused(6);
     }
-    let values = values_at(body(s));
-    if !in_range(values) {
-        return Answer::Refused(9);
+    let parameters = decode_parameters(body(s));
+    if !in_range(parameters) {
+        return ReadResult::Refused(9);
     }
-    Answer::Accepted(values)
+    ReadResult::Accepted(parameters)
 }
 
 // The record `PC` at the front of `s`.
-fn code(s: &[u8], values: Values) -> Answer
-    ensures { λ r. ⌜ r ≡ unless Answer.Refused (codeConditions values (now (s .entry))) (Answer.Accepted values) ⌝ }
+fn read_code(s: &[u8], parameters: Parameters) -> ReadResult
+    ensures { λ r. ⌜ r ≡ unless ReadResult.Refused (codeConditions parameters (now (s .entry))) (ReadResult.Accepted parameters) ⌝ }
 {
     if !is_framed(s, b'C') {
-        return Answer::Refused(6);
+        return ReadResult::Refused(6);
     }
-    let layout = values.layout;
+    let layout = parameters.layout;
     if layout.window < body_length(s) {
-        return Answer::Refused(10);
+        return ReadResult::Refused(10);
     }
     if ends_in_zero(body(s)) {
-        return Answer::Refused(10);
+        return ReadResult::Refused(10);
     }
-    Answer::Accepted(values)
+    ReadResult::Accepted(parameters)
 }
 
 // The record `PI` at the front of `s`.
-fn input(s: &[u8], values: Values) -> Answer
-    ensures { λ r. ⌜ r ≡ unless Answer.Refused (inputConditions values (now (s .entry))) (Answer.Accepted values) ⌝ }
+fn read_input(s: &[u8], parameters: Parameters) -> ReadResult
+    ensures { λ r. ⌜ r ≡ unless ReadResult.Refused (inputConditions parameters (now (s .entry))) (ReadResult.Accepted parameters) ⌝ }
 {
     if !is_framed(s, b'I') {
-        return Answer::Refused(6);
+        return ReadResult::Refused(6);
     }
-    let layout = values.layout;
+    let layout = parameters.layout;
     if layout.input < body_length(s) {
-        return Answer::Refused(11);
+        return ReadResult::Refused(11);
     }
-    Answer::Accepted(values)
+    ReadResult::Accepted(parameters)
 }
 
 // The record `PE` at the front of `s`, where the file ends.
-fn end(s: &[u8], values: Values) -> Answer
-    ensures { λ r. ⌜ r ≡ unless Answer.Refused (endConditions (now (s .entry))) (Answer.Accepted values) ⌝ }
+fn read_end(s: &[u8], parameters: Parameters) -> ReadResult
+    ensures { λ r. ⌜ r ≡ unless ReadResult.Refused (endConditions (now (s .entry))) (ReadResult.Accepted parameters) ⌝ }
 {
     if !is_fixed(s, b'E', 0) {
-        return Answer::Refused(6);
+        return ReadResult::Refused(6);
     }
-    if FRAME_SIZE < s.len() {
-        return Answer::Refused(6);
+    if FRAME_LENGTH < s.len() {
+        return ReadResult::Refused(6);
     }
-    Answer::Accepted(values)
+    ReadResult::Accepted(parameters)
 }
 
-// The values of a pattern file, or the number of its refusal.
-pub fn read(file: &[u8]) -> Answer
+// The parameters of a pattern file, or the number of its refusal.
+pub fn read(file: &[u8]) -> ReadResult
     ensures { λ r. ⌜ r ≡ readOf (now (file .entry)) ⌝ }
 {
-    let first = version(file);
-    let Answer::Accepted(_) = first else {
+    let first = read_version(file);
+    let ReadResult::Accepted(_) = first else {
         return first;
     };
     let from_partition = after_record(file);
-    let second = partition(from_partition);
-    let Answer::Accepted(values) = second else {
+    let second = read_parameters(from_partition);
+    let ReadResult::Accepted(parameters) = second else {
         return second;
     };
     let from_code = after_record(from_partition);
-    let third = code(from_code, values);
-    let Answer::Accepted(_) = third else {
+    let third = read_code(from_code, parameters);
+    let ReadResult::Accepted(_) = third else {
         return third;
     };
     let from_input = after_record(from_code);
-    let fourth = input(from_input, values);
-    let Answer::Accepted(_) = fourth else {
+    let fourth = read_input(from_input, parameters);
+    let ReadResult::Accepted(_) = fourth else {
         return fourth;
     };
-    let fifth = end(after_record(from_input), values);
-    let Answer::Accepted(_) = fifth else {
+    let fifth = read_end(after_record(from_input), parameters);
+    let ReadResult::Accepted(_) = fifth else {
         return fifth;
     };
-    Answer::Accepted(values)
+    ReadResult::Accepted(parameters)
 }
 
 // The body of the record at the front of `from`, which is a part of `file`; empty if the file is refused.
@@ -157,7 +159,7 @@ fn accepted_body<'a>(file: &[u8], from: &'a [u8]) -> &'a [u8]
     ensures { λ r. ⌜ now r ≡ ifAccepted (readOf (now (file .entry))) (bodyOf (now (from .entry))) ⌝ }
 {
     let answer = read(file);
-    let Answer::Accepted(_) = answer else {
+    let ReadResult::Accepted(_) = answer else {
         return front(from, 0);
     };
     body(from)
@@ -178,19 +180,19 @@ pub fn input_body(file: &[u8]) -> &[u8]
 }
 
 // Where the body of `PC` starts in the file, if the file is accepted.
-pub fn code_place(file: &[u8]) -> usize
-    ensures { λ n. ⌜ n ≡ codePlace (now (file .entry)) ⌝ }
+pub fn code_offset(file: &[u8]) -> usize
+    ensures { λ n. ⌜ n ≡ codeOffset (now (file .entry)) ⌝ }
 {
-    record_size(file) + record_size(after_record(file)) + FRAME_SIZE
+    record_length(file) + record_length(after_record(file)) + FRAME_LENGTH
 }
 
 // Where the body of `PI` starts in the file, if the file is accepted.
-pub fn input_place(file: &[u8]) -> usize
-    ensures { λ n. ⌜ n ≡ inputPlace (now (file .entry)) ⌝ }
+pub fn input_offset(file: &[u8]) -> usize
+    ensures { λ n. ⌜ n ≡ inputOffset (now (file .entry)) ⌝ }
 {
     let from_partition = after_record(file);
-    record_size(file)
-        + record_size(from_partition)
-        + record_size(after_record(from_partition))
-        + FRAME_SIZE
+    record_length(file)
+        + record_length(from_partition)
+        + record_length(after_record(from_partition))
+        + FRAME_LENGTH
 }

@@ -1,19 +1,19 @@
 // The parts of an entry; make_data.py gives the layout.
 use slices::byte;
-use slices::pair;
 use slices::part;
-use slices::quad;
+use slices::u16_at;
+use slices::u32_at;
 
 pub(crate) fn kind(entry: &[u8]) -> u16 {
-    pair(entry, 0)
+    u16_at(entry, 0)
 }
 
 pub(crate) fn line(entry: &[u8]) -> u16 {
-    pair(entry, 2)
+    u16_at(entry, 2)
 }
 
 pub(crate) fn slot(entry: &[u8]) -> usize {
-    pair(entry, 4) as usize
+    u16_at(entry, 4) as usize
 }
 
 // The number: a location, the length of a memory or a buffer, a count of rounds, a field's value or a check sum; by width.
@@ -22,11 +22,11 @@ pub(crate) fn value8(entry: &[u8]) -> u8 {
 }
 
 pub(crate) fn value16(entry: &[u8]) -> u16 {
-    pair(entry, 10)
+    u16_at(entry, 10)
 }
 
 pub(crate) fn value32(entry: &[u8]) -> u32 {
-    quad(entry, 8)
+    u32_at(entry, 8)
 }
 
 pub(crate) fn number(entry: &[u8]) -> usize {
@@ -34,7 +34,7 @@ pub(crate) fn number(entry: &[u8]) -> usize {
 }
 
 pub(crate) fn length(entry: &[u8]) -> u16 {
-    pair(entry, 14)
+    u16_at(entry, 14)
 }
 
 pub(crate) fn bytes(entry: &[u8]) -> &[u8] {

@@ -7,42 +7,42 @@ use common::Layout;
 use common::Location;
 use cpu::Cpu;
 use cpu::State;
-use slices::pair;
 use slices::rest;
+use slices::u16_at;
 use supervisor::Partition;
 use supervisor::Report;
 use supervisor::Slot;
 use supervisor::Table;
 
 fn same_registers(r: [u8; 7], want: &[u8]) -> bool {
-    (r[0] as u16 == pair(want, 0))
-        & (r[1] as u16 == pair(want, 2))
-        & (r[2] as u16 == pair(want, 4))
-        & (r[3] as u16 == pair(want, 6))
-        & (r[4] as u16 == pair(want, 8))
-        & (r[5] as u16 == pair(want, 10))
-        & (r[6] as u16 == pair(want, 12))
+    (r[0] as u16 == u16_at(want, 0))
+        & (r[1] as u16 == u16_at(want, 2))
+        & (r[2] as u16 == u16_at(want, 4))
+        & (r[3] as u16 == u16_at(want, 6))
+        & (r[4] as u16 == u16_at(want, 8))
+        & (r[5] as u16 == u16_at(want, 10))
+        & (r[6] as u16 == u16_at(want, 12))
 }
 
 fn same_returns(r: [u16; 8], want: &[u8]) -> bool {
-    (r[0] == pair(want, 0))
-        & (r[1] == pair(want, 2))
-        & (r[2] == pair(want, 4))
-        & (r[3] == pair(want, 6))
-        & (r[4] == pair(want, 8))
-        & (r[5] == pair(want, 10))
-        & (r[6] == pair(want, 12))
-        & (r[7] == pair(want, 14))
+    (r[0] == u16_at(want, 0))
+        & (r[1] == u16_at(want, 2))
+        & (r[2] == u16_at(want, 4))
+        & (r[3] == u16_at(want, 6))
+        & (r[4] == u16_at(want, 8))
+        & (r[5] == u16_at(want, 10))
+        & (r[6] == u16_at(want, 12))
+        & (r[7] == u16_at(want, 14))
 }
 
 fn same_partition(p: Partition, want: &[u8]) -> bool {
     let base = p.base;
     let layout = p.layout;
-    (base.0 == pair(want, 0) as u32)
-        & (layout.window == pair(want, 2))
-        & (layout.input == pair(want, 4))
-        & (layout.output == pair(want, 6))
-        & (p.quantum as u16 == pair(want, 8))
+    (base.0 == u16_at(want, 0) as u32)
+        & (layout.window == u16_at(want, 2))
+        & (layout.input == u16_at(want, 4))
+        & (layout.output == u16_at(want, 6))
+        & (p.quantum as u16 == u16_at(want, 8))
 }
 
 fn same_slot(s: Slot, want: &[u8]) -> bool {
@@ -52,15 +52,15 @@ fn same_slot(s: Slot, want: &[u8]) -> bool {
     let registers = cpu.registers;
     let returns = cpu.returns;
     same_partition(partition, want)
-        & (state.status as u16 == pair(want, 10))
-        & (cpu.counter == pair(want, 12))
-        & (cpu.psu as u16 == pair(want, 14))
-        & (cpu.psl as u16 == pair(want, 16))
+        & (state.status as u16 == u16_at(want, 10))
+        & (cpu.counter == u16_at(want, 12))
+        & (cpu.psu as u16 == u16_at(want, 14))
+        & (cpu.psl as u16 == u16_at(want, 16))
         & same_registers(registers, rest(want, 18))
         & same_returns(returns, rest(want, 32))
-        & (state.filled == pair(want, 48))
-        & (state.read == pair(want, 50))
-        & (state.written == pair(want, 52))
+        & (state.filled == u16_at(want, 48))
+        & (state.read == u16_at(want, 50))
+        & (state.written == u16_at(want, 52))
 }
 
 pub(crate) fn same_slots(t: Table, want: &[u8]) -> bool {
@@ -77,10 +77,10 @@ pub(crate) fn same_slots(t: Table, want: &[u8]) -> bool {
 
 pub(crate) fn same_report(r: Report, want: &[u8]) -> bool {
     let registers = r.registers;
-    (r.status as u16 == pair(want, 0))
-        & (r.counter == pair(want, 2))
-        & (r.psu as u16 == pair(want, 4))
-        & (r.psl as u16 == pair(want, 6))
+    (r.status as u16 == u16_at(want, 0))
+        & (r.counter == u16_at(want, 2))
+        & (r.psu as u16 == u16_at(want, 4))
+        & (r.psl as u16 == u16_at(want, 6))
         & same_registers(registers, rest(want, 8))
 }
 
@@ -178,7 +178,7 @@ fn poked_state(s: State, field: u16, entry: &[u8]) -> State {
 
 // The table with the entry's field set; the slot's number is below 8, but for the length of the memory.
 pub(crate) fn poked(t: Table, entry: &[u8]) -> Table {
-    let field = pair(entry, 12);
+    let field = u16_at(entry, 12);
     let k = slot(entry);
     let mut next = t;
     if k < 8 {

@@ -3,6 +3,7 @@
 mod crc;
 mod entry;
 mod fields;
+mod lending;
 
 use crate::crc::crc32;
 use crate::entry::bytes;
@@ -16,12 +17,13 @@ use crate::entry::value32;
 use crate::fields::poked;
 use crate::fields::same_report;
 use crate::fields::same_slots;
+use crate::lending::drain_loan;
 use common::Location;
 use libc::STDOUT_FILENO;
 use slices::fill;
 use slices::front;
-use slices::pair;
 use slices::rest;
+use slices::u16_at;
 use std::num::wrapping_add_u64;
 use supervisor::Answer;
 use supervisor::Table;
@@ -67,7 +69,7 @@ fn unanswered(world: World, same: bool) -> Done {
 
 // The refusal that the entry wants.
 fn wanted(entry: &[u8]) -> u16 {
-    pair(entry, 6)
+    u16_at(entry, 6)
 }
 
 fn answered(world: World, answer: Answer, entry: &[u8]) -> Done {
@@ -83,7 +85,7 @@ fn answered(world: World, answer: Answer, entry: &[u8]) -> Done {
 // Whether a drain answered as the entry wants, and left its buffer so.
 fn same_drained(refusal: u8, count: usize, buffer: &[u8], entry: &[u8]) -> bool {
     (refusal as u16 == wanted(entry))
-        & (count == pair(entry, 12) as usize)
+        & (count == u16_at(entry, 12) as usize)
         & check::same(front(buffer, number(entry)), bytes(entry))
 }
 
@@ -116,7 +118,7 @@ fn lent_into(world: World, memory: &[u8], entry: &[u8], buffer: &mut [u8]) -> Do
     }
     let mut table = world.table;
     let before = table.slots[k];
-    let answer = lend::drain_loan(before, memory, &mut buffer[..n]);
+    let answer = drain_loan(before, memory, &mut buffer[..n]);
     let taken = answer.taken;
     let after = answer.slot;
     table.slots[k] = after;

@@ -1,4 +1,4 @@
--- A run of stores, one byte a turn: what the loops of `copy` and `fill` keep.
+-- A run of stores, one byte an iteration: what the loops of `copy` and `fill` keep.
 use Prim.Native.Nat.{ℕ, _+_, _≤_, _<_}
 use mathlib.Core.List.{List}
 use mathlib.Core.Path.{_≡_, refl, sym, ap, _∙_}
@@ -7,7 +7,7 @@ use native.Mathlib.Omega.{arith}
 use lib.ListN.{length, getD, set, length-set}
 use lib.Seq.{paste, paste-zero, paste-suc, take-length}
 use Rattle.slices.specs.Slices.{copied}
-use Rattle.slices.specs.Laws.{copied-whole}
+use Rattle.slices.specs.SliceLaws.{copied-whole}
 
 -- l is d with the first i bytes of s stored from at on
 abbrev pub Stored : List ℕ → ℕ → List ℕ → ℕ → List ℕ → Type 0

@@ -2,6 +2,6 @@
 pub mod Slices
 pub mod Numbers
 -- Laws that the checker has shown.
-pub mod Laws
+pub mod SliceLaws
 pub mod PieceLaws
 pub mod NumberLaws

@@ -8,8 +8,8 @@ use native.Mathlib.Numerals.{add-one}
 use native.Mathlib.Omega.{arith}
 use lib.ListN.{length, getD, take, drop, length-append, length-set, set}
 use lib.Seq.{drop-cons, drop-drop, take-add, take-all, take-suc, take-suc-set}
-use Rattle.slices.specs.Slices.{partOf, copied, joined, listed}
-use Rattle.slices.specs.Laws.{copied-length, copied-next, copied-none}
+use Rattle.slices.specs.Slices.{partOf, copied, concat, tabulate}
+use Rattle.slices.specs.SliceLaws.{copied-length, copied-next, copied-none}
 
 -- ---- pieces that stand in the code one by one
 
@@ -19,14 +19,14 @@ copiedEach d [] = d
 copiedEach d (p ∷ ps) = copiedEach (copied d (p .0) (p .1)) ps
 
 -- each piece starts where the one before it ends
-abbrev pub Behind : ℕ → List (ℕ × List ℕ) → Type 0
-Behind at [] = Unit {0}
-Behind at (p ∷ ps) = (p .0 ≡ at) × Behind (at + length (p .1)) ps
+abbrev pub Contiguous : ℕ → List (ℕ × List ℕ) → Type 0
+Contiguous at [] = Unit {0}
+Contiguous at (p ∷ ps) = (p .0 ≡ at) × Contiguous (at + length (p .1)) ps
 
 abbrev pub piecesOf : List (ℕ × List ℕ) → List ℕ
-piecesOf ps = joined (map (λ p. p .1) ps)
+piecesOf ps = concat (map (λ p. p .1) ps)
 
-pub copied-each : (ps : List (ℕ × List ℕ)) (d : List ℕ) (at : ℕ) → Behind at ps → at + length (piecesOf ps) ≤ length d → copiedEach d ps ≡ copied d at (piecesOf ps)
+pub copied-each : (ps : List (ℕ × List ℕ)) (d : List ℕ) (at : ℕ) → Contiguous at ps → at + length (piecesOf ps) ≤ length d → copiedEach d ps ≡ copied d at (piecesOf ps)
 copied-each [] d at places room = sym (copied-none d at)
 copied-each (p ∷ ps) d at places room =
     let whole : length (piecesOf (p ∷ ps)) ≡ length (p .1) + length (piecesOf ps) = length-append (p .1) (piecesOf ps) in
@@ -49,103 +49,103 @@ abbrev pub partsOf : List ℕ → ℕ → List ℕ → List (List ℕ)
 partsOf s at [] = []
 partsOf s at (n ∷ ns) = partOf s at n ∷ partsOf s (at + n) ns
 
-pub parts-joined : (s : List ℕ) (at : ℕ) (ns : List ℕ) → joined (partsOf s at ns) ≡ partOf s at (totalOf ns)
-parts-joined s at [] = refl
-parts-joined s at (n ∷ ns) =
-    ap (λ (l : List ℕ). partOf s at n ++ l) (parts-joined s (at + n) ns ∙ ap (take (totalOf ns)) (sym (drop-drop n at s)))
+pub parts-concat : (s : List ℕ) (at : ℕ) (ns : List ℕ) → concat (partsOf s at ns) ≡ partOf s at (totalOf ns)
+parts-concat s at [] = refl
+parts-concat s at (n ∷ ns) =
+    ap (λ (l : List ℕ). partOf s at n ++ l) (parts-concat s (at + n) ns ∙ ap (take (totalOf ns)) (sym (drop-drop n at s)))
     ∙ sym (take-add n (totalOf ns) (drop at s))
 
 -- ---- pieces of one width, copied in a loop
 
-joined-more : (ps : List (List ℕ)) (p : List ℕ) → joined (ps ++ (p ∷ [])) ≡ joined ps ++ p
-joined-more [] p = append-nil p
-joined-more (x ∷ xs) p = ap (λ (l : List ℕ). x ++ l) (joined-more xs p) ∙ sym (append-assoc x (joined xs) p)
+concat-more : (ps : List (List ℕ)) (p : List ℕ) → concat (ps ++ (p ∷ [])) ≡ concat ps ++ p
+concat-more [] p = append-nil p
+concat-more (x ∷ xs) p = ap (λ (l : List ℕ). x ++ l) (concat-more xs p) ∙ sym (append-assoc x (concat xs) p)
 
 map-more : {A : Type 0} (f : A → List ℕ) (xs : List A) (x : A) → map f (xs ++ (x ∷ [])) ≡ map f xs ++ (f x ∷ [])
 map-more f [] x = refl
 map-more f (y ∷ ys) x = ap (λ (l : List (List ℕ)). f y ∷ l) (map-more f ys x)
 
 module _ {A : Type 0} (piece : A → List ℕ) (width : ℕ) (xs : List A) (l : List ℕ) (at : ℕ) where
-  abbrev front : ℕ → List ℕ
-  front k = joined (map piece (take k xs))
+  abbrev frontPieces : ℕ → List ℕ
+  frontPieces k = concat (map piece (take k xs))
 
   -- m is l with the pieces of the first k elements from at on
-  pub record PutTo (k : ℕ) (m : List ℕ) : Type 0 where
+  pub record PiecesPut (k : ℕ) (m : List ℕ) : Type 0 where
     pub some : k ≤ length xs
     pub kept : length m ≡ length l
-    pub size : length (front k) ≡ width * k
-    pub held : m ≡ copied l at (front k)
+    pub size : length (frontPieces k) ≡ width * k
+    pub held : m ≡ copied l at (frontPieces k)
 
-  pub put-none : PutTo 0 l
-  put-none = record { some = omega arith; kept = refl; size = sym (mul-zero width); held = sym (copied-none l at) }
+  pub pieces-none : PiecesPut 0 l
+  pieces-none = record { some = omega arith; kept = refl; size = sym (mul-zero width); held = sym (copied-none l at) }
 
-  module _ (k : ℕ) (m : List ℕ) (h : PutTo k m) where
-    pub put-more : (none : A) (n : List ℕ) → k < length xs → length (piece (getD xs k none)) ≡ width → at + width * k + width ≤ length l
-        → n ≡ copied m (at + width * k) (piece (getD xs k none)) → PutTo (k + 1) n
-    put-more none n inside wide room put =
+  module _ (k : ℕ) (m : List ℕ) (h : PiecesPut k m) where
+    pub pieces-more : (none : A) (n : List ℕ) → k < length xs → length (piece (getD xs k none)) ≡ width → at + width * k + width ≤ length l
+        → n ≡ copied m (at + width * k) (piece (getD xs k none)) → PiecesPut (k + 1) n
+    pieces-more none n inside wide room put =
         let x : A = getD xs k none in
-        let more : front k ++ piece x ≡ front (k + 1) =
-        sym (joined-more (map piece (take k xs)) (piece x))
-        ∙ ap joined (sym (map-more piece (take k xs) x))
-        ∙ ap (λ (ys : List A). joined (map piece ys)) (sym (take-suc xs k none inside) ∙ ap (λ (i : ℕ). take i xs) (sym (add-one k)))
+        let more : frontPieces k ++ piece x ≡ frontPieces (k + 1) =
+        sym (concat-more (map piece (take k xs)) (piece x))
+        ∙ ap concat (sym (map-more piece (take k xs) x))
+        ∙ ap (λ (ys : List A). concat (map piece ys)) (sym (take-suc xs k none inside) ∙ ap (λ (i : ℕ). take i xs) (sym (add-one k)))
         in
-        let size : length (front k) ≡ width * k = h .size in
+        let size : length (frontPieces k) ≡ width * k = h .size in
         let kept : length m ≡ length l = h .kept in
         let next : width * (k + 1) ≡ width * k + width = ap (λ (i : ℕ). width * i) (add-one k) ∙ mul-suc width k in
         record {
           some = omega arith;
           kept = ap length put ∙ copied-length m (at + width * k) (piece x) ∙ kept;
-          size = sym (ap length more) ∙ length-append (front k) (piece x) ∙ (omega arith);
-          held = copied-next l m n at (at + width * k) (front k) (piece x) (h .held) put (omega arith) (omega arith) ∙ ap (copied l at) more;
+          size = sym (ap length more) ∙ length-append (frontPieces k) (piece x) ∙ (omega arith);
+          held = copied-next l m n at (at + width * k) (frontPieces k) (piece x) (h .held) put (omega arith) (omega arith) ∙ ap (copied l at) more;
         }
 
-    pub put-all : length xs ≤ k → m ≡ copied l at (joined (map piece xs))
-    put-all past = h .held ∙ ap (λ (ys : List A). copied l at (joined (map piece ys))) (take-all k xs past)
+    pub pieces-all : length xs ≤ k → m ≡ copied l at (concat (map piece xs))
+    pieces-all past = h .held ∙ ap (λ (ys : List A). copied l at (concat (map piece ys))) (take-all k xs past)
 
-    pub put-size : length xs ≤ k → length (joined (map piece xs)) ≡ width * length xs
-    put-size past =
+    pub pieces-size : length xs ≤ k → length (concat (map piece xs)) ≡ width * length xs
+    pieces-size past =
         let some : k ≤ length xs = h .some in
         let e : k ≡ length xs = omega arith in
-        sym (ap (λ (ys : List A). length (joined (map piece ys))) (take-all k xs past)) ∙ h .size ∙ ap (λ (i : ℕ). width * i) e
+        sym (ap (λ (ys : List A). length (concat (map piece ys))) (take-all k xs past)) ∙ h .size ∙ ap (λ (i : ℕ). width * i) e
 
 -- ---- elements
 
 -- a part that the list has is the list of its bytes
-pub part-listed : (n : ℕ) (s : List ℕ) (at : ℕ) → at + n ≤ length s → listed n (λ i. getD s (at + i) 0) ≡ partOf s at n
-part-listed zero s at h = refl
-part-listed (suc n) s at h =
+pub part-tabulated : (n : ℕ) (s : List ℕ) (at : ℕ) → at + n ≤ length s → tabulate n (λ i. getD s (at + i) 0) ≡ partOf s at n
+part-tabulated zero s at h = refl
+part-tabulated (suc n) s at h =
     let first : getD s (at + 0) 0 ≡ getD s at 0 = ap (λ (i : ℕ). getD s i 0) (add-zero at) in
     let place : (i : ℕ) → at + suc i ≡ suc at + i = λ i. omega arith in
-    let others : listed n (λ i. getD s (at + suc i) 0) ≡ partOf s (suc at) n =
-    (λ j. listed n (λ i. getD s (place i j) 0)) ∙ part-listed n s (suc at) (omega arith)
+    let others : tabulate n (λ i. getD s (at + suc i) 0) ≡ partOf s (suc at) n =
+    (λ j. tabulate n (λ i. getD s (place i j) 0)) ∙ part-tabulated n s (suc at) (omega arith)
     in
     (λ j. first j ∷ others j) ∙ sym (ap (take (suc n)) (drop-cons s at 0 (omega arith)))
 
 -- and so is a list of that length
-pub all-listed : (n : ℕ) (s : List ℕ) → length s ≡ n → s ≡ listed n (λ i. getD s i 0)
-all-listed zero [] h = refl
-all-listed zero (x ∷ xs) h = absurd (omega arith)
-all-listed (suc n) [] h = absurd (omega arith)
-all-listed (suc n) (x ∷ xs) h = ap (λ (l : List ℕ). x ∷ l) (all-listed n xs (omega arith))
+pub list-tabulated : (n : ℕ) (s : List ℕ) → length s ≡ n → s ≡ tabulate n (λ i. getD s i 0)
+list-tabulated zero [] h = refl
+list-tabulated zero (x ∷ xs) h = absurd (omega arith)
+list-tabulated (suc n) [] h = absurd (omega arith)
+list-tabulated (suc n) (x ∷ xs) h = ap (λ (l : List ℕ). x ∷ l) (list-tabulated n xs (omega arith))
 
 module _ {A : Type 0} where
-  listed-more : (n : ℕ) (f : ℕ → A) → listed (suc n) f ≡ listed n f ++ (f n ∷ [])
-  listed-more zero f = refl
-  listed-more (suc n) f = ap (λ (l : List A). f 0 ∷ l) (listed-more n (λ i. f (suc i)))
+  tabulate-more : (n : ℕ) (f : ℕ → A) → tabulate (suc n) f ≡ tabulate n f ++ (f n ∷ [])
+  tabulate-more zero f = refl
+  tabulate-more (suc n) f = ap (λ (l : List A). f 0 ∷ l) (tabulate-more n (λ i. f (suc i)))
 
   module _ (n : ℕ) (f : ℕ → A) where
     -- the first k of the n elements of l are those that f gives
-    pub record ListedTo (k : ℕ) (l : List A) : Type 0 where
+    pub record TabulatedTo (k : ℕ) (l : List A) : Type 0 where
       pub some : k ≤ n
       pub whole : length l ≡ n
-      pub front : take k l ≡ listed k f
+      pub front : take k l ≡ tabulate k f
 
-    pub listed-none : (l : List A) → length l ≡ n → ListedTo 0 l
-    listed-none l h = record { some = omega arith; whole = h; front = refl }
+    pub tabulated-none : (l : List A) → length l ≡ n → TabulatedTo 0 l
+    tabulated-none l h = record { some = omega arith; whole = h; front = refl }
 
-    module _ (k : ℕ) (l : List A) (h : ListedTo k l) where
-      pub listed-next : (x : A) → k < n → x ≡ f k → ListedTo (k + 1) (set l k x)
-      listed-next x inside it =
+    module _ (k : ℕ) (l : List A) (h : TabulatedTo k l) where
+      pub tabulated-next : (x : A) → k < n → x ≡ f k → TabulatedTo (k + 1) (set l k x)
+      tabulated-next x inside it =
           let whole : length l ≡ n = h .whole in
           record {
             some = omega arith;
@@ -154,13 +154,13 @@ module _ {A : Type 0} where
                 ap (λ (i : ℕ). take i (set l k x)) (add-one k)
                 ∙ take-suc-set l k x (omega arith)
                 ∙ (λ j. h .front j ++ (it j ∷ []))
-                ∙ sym (listed-more k f)
-                ∙ ap (λ (i : ℕ). listed i f) (sym (add-one k));
+                ∙ sym (tabulate-more k f)
+                ∙ ap (λ (i : ℕ). tabulate i f) (sym (add-one k));
           }
 
-      pub listed-all : n ≤ k → l ≡ listed n f
-      listed-all past =
+      pub tabulated-all : n ≤ k → l ≡ tabulate n f
+      tabulated-all past =
           let whole : length l ≡ n = h .whole in
           let some : k ≤ n = h .some in
           let e : k ≡ n = omega arith in
-          sym (take-all k l (omega arith)) ∙ h .front ∙ ap (λ (i : ℕ). listed i f) e
+          sym (take-all k l (omega arith)) ∙ h .front ∙ ap (λ (i : ℕ). tabulate i f) e

@@ -18,15 +18,15 @@ unfoldable pub copied : List ℕ → ℕ → List ℕ → List ℕ
 copied d at s = if leb (at + length s) (length d) then take at d ++ s ++ drop (at + length s) d else d
 
 -- the same, with n times the byte b for s
-abbrev pub filled : List ℕ → ℕ → ℕ → ℕ → List ℕ
-filled d at n b = copied d at (replicate n b)
+abbrev pub filledWith : List ℕ → ℕ → ℕ → ℕ → List ℕ
+filledWith d at n b = copied d at (replicate n b)
 
 -- pieces, one behind the other
-abbrev pub joined : List (List ℕ) → List ℕ
-joined [] = []
-joined (piece ∷ pieces) = piece ++ joined pieces
+abbrev pub concat : List (List ℕ) → List ℕ
+concat [] = []
+concat (piece ∷ pieces) = piece ++ concat pieces
 
 -- the list of the n elements f 0, f 1, ..
-abbrev pub listed : {A : Type 0} → ℕ → (ℕ → A) → List A
-listed zero f = []
-listed (suc n) f = f 0 ∷ listed n (λ i. f (suc i))
+abbrev pub tabulate : {A : Type 0} → ℕ → (ℕ → A) → List A
+tabulate zero f = []
+tabulate (suc n) f = f 0 ∷ tabulate n (λ i. f (suc i))

@@ -1,6 +1,6 @@
 -- Laws that only proofs need.
-pub mod All
-pub mod Accepted
-pub mod Drains
-pub mod Loads
-pub mod RoundLaws
+pub mod AllBelowLaws
+pub mod LoadedSlotLaws
+pub mod DrainingLaws
+pub mod LoadingLaws
+pub mod RunningLaws

@@ -8,8 +8,15 @@ use lib.ListN.{length, drop, replicate}
 use Rattle.common.specs.Choice.{if_then_else_}
 use Rattle.common.specs.Refusals.{Condition, refusalBy}
 use Rattle.common.specs.declared.places.Location.{Location}
-use Rattle.pattern.specs.Reader.{valuesOf}
-use Rattle.supervisor.specs.Operations.{System, system, slotOf, tableConditions, memoryConditions, emptyConditions, loadedConditions, fileConditions, placeConditions, feedConditions, drainConditions, partitionFor, Patch, patched, loadPatch, unloadPatch, feedPatch, drainPatch, writtenBytes, afterRun, sensedPsu}
+use Rattle.pattern.specs.Reader.{parametersOf}
+use Rattle.supervisor.specs.System.{System, system, slotOf, Patch, patched}
+use Rattle.supervisor.specs.Conditions.{tableConditions, memoryConditions, emptyConditions, loadedConditions}
+use Rattle.supervisor.specs.Loading.{fileConditions, placeConditions, partitionFor, loadPatch}
+use Rattle.supervisor.specs.Feeding.{feedConditions, feedPatch}
+use Rattle.supervisor.specs.Draining.{drainConditions, drainPatch, writtenBytes}
+use Rattle.supervisor.specs.Unloading.{unloadPatch}
+use Rattle.supervisor.specs.Running.{afterRun}
+use Rattle.supervisor.specs.Reporting.{reportedPsu}
 use Rattle.supervisor.specs.Table.{slotAt}
 use Rattle.supervisor.specs.declared.reported.Report.{Report}
 use Rattle.supervisor.specs.declared.table.Slot.{Slot}
@@ -36,7 +43,7 @@ pub data Call : Type 0 where
 
 unfoldable pub changeConditions : Change → System → ℕ → List Condition
 changeConditions (load location file) x k =
-    memoryConditions x ++ emptyConditions (x .table) k ++ (fileConditions file ++ placeConditions (x .table) k (partitionFor location (valuesOf file)))
+    memoryConditions x ++ emptyConditions (x .table) k ++ (fileConditions file ++ placeConditions (x .table) k (partitionFor location (parametersOf file)))
 changeConditions unload x k = memoryConditions x ++ loadedConditions (x .table) k
 changeConditions (feed bytes) x k = memoryConditions x ++ loadedConditions (x .table) k ++ feedConditions (slotOf x k) bytes
 changeConditions (drain room) x k = memoryConditions x ++ loadedConditions (x .table) k ++ drainConditions (slotOf x k) room
@@ -63,14 +70,14 @@ patchOf (feed bytes) s = feedPatch bytes s
 patchOf (drain room) s = drainPatch s
 
 -- table and memory after an accepted call
-unfoldable pub effect : Call → System → System
-effect (change k c) x = patched x k (patchOf c (slotOf x k))
-effect (run n) x = afterRun n x
-effect (query q) x = x
+unfoldable pub afterAccepted : Call → System → System
+afterAccepted (change k c) x = patched x k (patchOf c (slotOf x k))
+afterAccepted (run n) x = afterRun n x
+afterAccepted (query q) x = x
 
 -- a refused call hands back the table that it was given, and changes no byte
 unfoldable pub afterCall : Call → System → System
-afterCall c x = if accepted c x then effect c x else x
+afterCall c x = if accepted c x then afterAccepted c x else x
 
 -- what a call answers and leaves, as one value: every contract of an operation is an equation of this
 pub record Outcome : Type 0 where
@@ -109,7 +116,7 @@ reportOf t k =
       status = slotAt t k .state .status;
       counter = slotAt t k .state .cpu .counter;
       registers = slotAt t k .state .cpu .registers;
-      psu = sensedPsu (slotAt t k .state);
+      psu = reportedPsu (slotAt t k .state);
       psl = slotAt t k .state .cpu .psl;
     }
     else record { refusal = queryRefusal (report k) t; status = 0; counter = 0; registers = replicate 7 0; psu = 0; psl = 0 }

@@ -1,14 +1,26 @@
 -- Definitions that must be believed, in reading order.
 pub mod Table
-pub mod Operations
+pub mod Location
+pub mod Sound
+pub mod System
+pub mod Conditions
+pub mod Loading
+pub mod Unloading
+pub mod Resuming
+pub mod Feeding
+pub mod Draining
+pub mod Running
+pub mod Reporting
 pub mod Calls
 pub mod Events
--- Laws that the checker has shown: Theorem is demand 3, the others carry it.
-pub mod Soundness
-pub mod Conditions
-pub mod Machines
-pub mod Patches
-pub mod Rounds
-pub mod Outcomes
-pub mod Changes
-pub mod Theorem
+pub mod Isolation
+-- Laws that the checker has shown: IsolationTheorem is demand 3, the others carry it.
+pub mod SoundLaws
+pub mod ConditionLaws
+pub mod SlotMachineLaws
+pub mod PatchLaws
+pub mod RoundLaws
+pub mod OutcomeLaws
+pub mod CallDefinitions
+pub mod ChangeLaws
+pub mod IsolationTheorem

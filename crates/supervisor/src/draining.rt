@@ -1,7 +1,7 @@
 // Draining: the written bytes to the front of a lent buffer.
-use crate::location::output_at;
-use crate::refusals::slot_refusal;
-use crate::status::resumed;
+use crate::conditions::memory_loaded_refusal;
+use crate::location::output_location;
+use crate::resuming::resumed_status;
 use crate::table::Slot;
 use crate::table::Table;
 use cpu::State;
@@ -9,10 +9,11 @@ ghost use mathlib.Core.Path.{_≡_};
 ghost use lib.ListN.{length};
 ghost use Rattle.supervisor.specs.Calls as calls;
 ghost use Rattle.supervisor.specs.Calls.{refusal, outcome, outcomeOf, drainedCount, drainedBuffer};
-ghost use Rattle.supervisor.specs.Operations.{system, drainedState};
+ghost use Rattle.supervisor.specs.System.{system};
+ghost use Rattle.supervisor.specs.Draining.{drainedState};
 
 // The refusal, 0 for none, how many bytes were drained, and the table.
-pub struct Drained {
+pub struct DrainAnswer {
     pub refusal: u8,
     pub count: usize,
     pub table: Table,
@@ -21,7 +22,7 @@ pub struct Drained {
 fn drain_refusal(table: Table, memory: &[u8], slot: usize, room: usize) -> u8
     ensures { λ r. ⌜ r ≡ refusal (calls.change slot (calls.drain room)) (system table (now (memory .entry))) ⌝ }
 {
-    let number = slot_refusal(table, memory, slot);
+    let number = memory_loaded_refusal(table, memory, slot);
     if number != 0 {
         return number;
     }
@@ -34,24 +35,24 @@ fn drain_refusal(table: Table, memory: &[u8], slot: usize, room: usize) -> u8
 }
 
 // The output buffer is written from its front again; a machine that found it full runs again.
-fn emptied(s: State) -> State
+fn drained_state(s: State) -> State
     ensures { λ r. ⌜ r ≡ drainedState s ⌝ }
 {
     let mut next = s;
-    next.status = resumed(4, s.status);
+    next.status = resumed_status(4, s.status);
     next.written = 0;
     next
 }
 
 // Document 01's collect. The memory's bytes are left, and so is the buffer behind the drained bytes.
-pub fn drain(table: Table, memory: &[u8], slot: usize, buffer: &mut [u8]) -> Drained
+pub fn drain(table: Table, memory: &[u8], slot: usize, buffer: &mut [u8]) -> DrainAnswer
     ensures { λ r. ⌜ outcome (r .refusal) (r .table) (now (memory .entry)) ≡ outcomeOf (calls.change slot (calls.drain (length (now (buffer .entry))))) (system table (now (memory .entry))) ⌝ }
     ensures { λ r. ⌜ r .count ≡ drainedCount (system table (now (memory .entry))) slot (length (now (buffer .entry))) ⌝ }
     ensures { λ r. ⌜ now (buffer .exit) ≡ drainedBuffer (system table (now (memory .entry))) slot (now (buffer .entry)) ⌝ }
 {
     let number = drain_refusal(table, memory, slot, buffer.len());
     if number != 0 {
-        return Drained {
+        return DrainAnswer {
             refusal: number,
             count: 0,
             table,
@@ -61,12 +62,12 @@ pub fn drain(table: Table, memory: &[u8], slot: usize, buffer: &mut [u8]) -> Dra
     let partition = s.partition;
     let old = s.state;
     let count = old.written as usize;
-    let place = output_at(partition);
+    let place = output_location(partition);
     slices::copy(buffer, 0, slices::part(memory, place.0 as usize, count));
-    let state = emptied(old);
+    let state = drained_state(old);
     let mut next = table;
     next.slots[slot] = Slot { partition, state };
-    Drained {
+    DrainAnswer {
         refusal: 0,
         count,
         table: next,

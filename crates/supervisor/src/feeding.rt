@@ -1,7 +1,7 @@
 // Feeding: bytes to the front of the input buffer.
-use crate::location::input_at;
-use crate::refusals::slot_refusal;
-use crate::status::resumed;
+use crate::conditions::memory_loaded_refusal;
+use crate::location::input_location;
+use crate::resuming::resumed_status;
 use crate::table::Answer;
 use crate::table::Slot;
 use crate::table::Table;
@@ -9,12 +9,13 @@ use cpu::State;
 ghost use mathlib.Core.Path.{_≡_};
 ghost use Rattle.supervisor.specs.Calls as calls;
 ghost use Rattle.supervisor.specs.Calls.{refusal, outcome, outcomeOf};
-ghost use Rattle.supervisor.specs.Operations.{system, fedState};
+ghost use Rattle.supervisor.specs.System.{system};
+ghost use Rattle.supervisor.specs.Feeding.{fedState};
 
 fn feed_refusal(table: Table, memory: &[u8], slot: usize, bytes: &[u8]) -> u8
     ensures { λ r. ⌜ r ≡ refusal (calls.change slot (calls.feed (now (bytes .entry)))) (system table (now (memory .entry))) ⌝ }
 {
-    let number = slot_refusal(table, memory, slot);
+    let number = memory_loaded_refusal(table, memory, slot);
     if number != 0 {
         return number;
     }
@@ -32,11 +33,11 @@ fn feed_refusal(table: Table, memory: &[u8], slot: usize, bytes: &[u8]) -> u8
 }
 
 // The input buffer is unread from its front; a machine that wants input runs again.
-fn fed(count: u16, s: State) -> State
+fn fed_state(count: u16, s: State) -> State
     ensures { λ r. ⌜ r ≡ fedState count s ⌝ }
 {
     let mut next = s;
-    next.status = resumed(3, s.status);
+    next.status = resumed_status(3, s.status);
     next.filled = count;
     next.read = 0;
     next
@@ -55,9 +56,9 @@ pub fn feed(table: Table, memory: &mut [u8], slot: usize, bytes: &[u8]) -> Answe
     }
     let s = table.slots[slot];
     let partition = s.partition;
-    let place = input_at(partition);
+    let place = input_location(partition);
     slices::copy(memory, place.0 as usize, bytes);
-    let state = fed(bytes.len() as u16, s.state);
+    let state = fed_state(bytes.len() as u16, s.state);
     let mut next = table;
     next.slots[slot] = Slot { partition, state };
     Answer {

@@ -1,18 +1,18 @@
 // Eight slots over one memory: loading, unloading, feeding, draining, running and reporting.
+mod conditions;
 mod draining;
 mod feeding;
 mod loading;
 mod location;
-mod refusals;
 mod reported;
 mod reporting;
+mod resuming;
 mod running;
 mod sound;
-mod status;
 mod table;
 mod unloading;
 
-pub use draining::Drained;
+pub use draining::DrainAnswer;
 pub use draining::drain;
 pub use feeding::feed;
 pub use loading::load;

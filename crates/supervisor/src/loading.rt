@@ -1,22 +1,23 @@
 // Loading: a pattern file into an empty slot and its partition.
-use crate::refusals::free_refusal;
-use crate::sound::clear_of;
+use crate::conditions::memory_empty_refusal;
+use crate::sound::clear_of_others;
 use crate::table::Answer;
 use crate::table::Partition;
 use crate::table::Slot;
 use crate::table::Table;
 use common::Location;
-use pattern::Values;
+use pattern::Parameters;
 ghost use mathlib.Core.Path.{_≡_};
 ghost use Prim.Native.Nat.{_<_};
 ghost use Rattle.common.specs.Refusals.{refusalBy};
 ghost use Rattle.pattern.specs.Reader.{readOf};
-ghost use Rattle.pattern.specs.declared.reader.Answer.the-variants.{Accepted};
+ghost use Rattle.pattern.specs.declared.reader.ReadResult.the-variants.{Accepted};
 ghost use Rattle.supervisor.specs.Calls as calls;
 ghost use Rattle.supervisor.specs.Calls.{outcome, outcomeOf};
-ghost use Rattle.supervisor.specs.Operations.{system, partitionFor, placeConditions, patched, loadPatch};
+ghost use Rattle.supervisor.specs.System.{system, patched};
+ghost use Rattle.supervisor.specs.Loading.{partitionFor, placeConditions, loadPatch};
 
-fn partition_for(base: Location, v: Values) -> Partition
+fn partition_for(base: Location, v: Parameters) -> Partition
     ensures { λ r. ⌜ r ≡ partitionFor base v ⌝ }
 {
     let layout = v.layout;
@@ -34,19 +35,19 @@ fn place_refusal(table: Table, slot: usize, p: Partition) -> u8
     if (table.size as usize) < p.end() {
         return 12;
     }
-    if !clear_of(table, slot, p) {
+    if !clear_of_others(table, slot, p) {
         return 13;
     }
     0
 }
 
 // The accepted load: the partition's bytes, and a table with the slot taken.
-fn loaded(
+fn load_slot(
     table: Table,
     memory: &mut [u8],
     slot: usize,
     partition: Partition,
-    v: Values,
+    v: Parameters,
     file: &[u8],
 ) -> Table
     requires { ⌜ slot < 8 ⌝ }
@@ -54,9 +55,9 @@ fn loaded(
     requires { ⌜ partition ≡ partitionFor (partition .base) v ⌝ }
     ensures { λ r. ⌜ system r (now (memory .exit)) ≡ patched (system table (now (memory .entry))) slot (loadPatch (partition .base) (now (file .entry))) ⌝ }
 {
-    loader::put(file, memory, partition.base);
+    loader::put_fresh_bytes(file, memory, partition.base);
     let input = pattern::input_body(file);
-    let state = loader::fresh(v, input.len() as u16);
+    let state = loader::fresh_state(v, input.len() as u16);
     let mut next = table;
     next.slots[slot] = Slot { partition, state };
     next
@@ -66,7 +67,7 @@ fn loaded(
 pub fn load(table: Table, memory: &mut [u8], slot: usize, location: Location, file: &[u8]) -> Answer
     ensures { λ r. ⌜ outcome (r .refusal) (r .table) (now (memory .exit)) ≡ outcomeOf (calls.change slot (calls.load location (now (file .entry)))) (system table (now (memory .entry))) ⌝ }
 {
-    let number = free_refusal(table, &memory[..], slot);
+    let number = memory_empty_refusal(table, &memory[..], slot);
     if number != 0 {
         return Answer {
             refusal: number,
@@ -74,9 +75,9 @@ pub fn load(table: Table, memory: &mut [u8], slot: usize, location: Location, fi
         };
     }
     let answer = pattern::read(file);
-    let pattern::Answer::Accepted(v) = answer else {
+    let pattern::ReadResult::Accepted(v) = answer else {
         return Answer {
-            refusal: pattern::refusal(answer),
+            refusal: answer.refusal(),
             table,
         };
     };
@@ -88,7 +89,7 @@ pub fn load(table: Table, memory: &mut [u8], slot: usize, location: Location, fi
             table,
         };
     }
-    let next = loaded(table, memory, slot, partition, v, file);
+    let next = load_slot(table, memory, slot, partition, v, file);
     Answer {
         refusal: 0,
         table: next,

@@ -4,10 +4,11 @@ use common::Address;
 use common::Location;
 ghost use mathlib.Core.Path.{_≡_};
 ghost use Prim.Native.Nat.{_+_, _<_, _≤_};
-ghost use Rattle.supervisor.specs.Table.{endOf, locationOf, inputPlace, outputPlace};
+ghost use Rattle.supervisor.specs.Table.{partitionEnd};
+ghost use Rattle.supervisor.specs.Location.{locationOf, inputLocation, outputLocation};
 
 // The place of a machine address: the only way from one to the other is the partition's base.
-fn located(p: Partition, a: Address) -> Location
+fn location_of(p: Partition, a: Address) -> Location
     requires { ⌜ p .base .0 + a .0 < 4294967296 ⌝ }
     ensures { λ r. ⌜ r ≡ locationOf p a ⌝ }
 {
@@ -16,20 +17,20 @@ fn located(p: Partition, a: Address) -> Location
 }
 
 // Where the input buffer starts: at the first address outside the window.
-pub(crate) fn input_at(p: Partition) -> Location
-    requires { ⌜ endOf p ≤ 65536 ⌝ }
-    ensures { λ r. ⌜ r ≡ inputPlace p ⌝ }
+pub(crate) fn input_location(p: Partition) -> Location
+    requires { ⌜ partitionEnd p ≤ 65536 ⌝ }
+    ensures { λ r. ⌜ r ≡ inputLocation p ⌝ }
 {
     let layout = p.layout;
-    located(p, Address(layout.window))
+    location_of(p, Address(layout.window))
 }
 
 // Where the output buffer starts: behind the input buffer.
-pub(crate) fn output_at(p: Partition) -> Location
-    requires { ⌜ endOf p ≤ 65536 ⌝ }
-    ensures { λ r. ⌜ r ≡ outputPlace p ⌝ }
+pub(crate) fn output_location(p: Partition) -> Location
+    requires { ⌜ partitionEnd p ≤ 65536 ⌝ }
+    ensures { λ r. ⌜ r ≡ outputLocation p ⌝ }
 {
     let layout = p.layout;
-    let input = input_at(p);
+    let input = input_location(p);
     Location(input.0 + layout.input as u32)
 }

@@ -1,17 +1,17 @@
 // Reporting on a slot.
-use crate::refusals::held_refusal;
+use crate::conditions::table_loaded_refusal;
 use crate::reported::Report;
 use crate::table::Table;
 use cpu::State;
 ghost use mathlib.Core.Path.{_≡_};
 ghost use Prim.Native.Nat.{_<_};
 ghost use Rattle.supervisor.specs.Calls.{reportOf};
-ghost use Rattle.supervisor.specs.Operations.{sensedPsu};
+ghost use Rattle.supervisor.specs.Reporting.{reportedPsu};
 
 // PSU with Sense, which is never stored: the stored one is below 128.
-fn sensed(s: State) -> u8
+fn reported_psu(s: State) -> u8
     requires { ⌜ s .cpu .psu < 128 ⌝ }
-    ensures { λ r. ⌜ r ≡ sensedPsu s ⌝ }
+    ensures { λ r. ⌜ r ≡ reportedPsu s ⌝ }
 {
     let cpu = s.cpu;
     if s.read < s.filled {
@@ -25,7 +25,7 @@ fn sensed(s: State) -> u8
 pub fn report(table: Table, slot: usize) -> Report
     ensures { λ r. ⌜ r ≡ reportOf table slot ⌝ }
 {
-    let refusal = held_refusal(table, slot);
+    let refusal = table_loaded_refusal(table, slot);
     if refusal != 0 {
         return Report {
             refusal,
@@ -45,7 +45,7 @@ pub fn report(table: Table, slot: usize) -> Report
         status: state.status,
         counter: cpu.counter,
         registers,
-        psu: sensed(state),
+        psu: reported_psu(state),
         psl: cpu.psl,
     }
 }

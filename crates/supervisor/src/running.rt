@@ -6,19 +6,21 @@ ghost use lib.ListN.{length};
 ghost use Rattle.slices.specs.Slices.{copied};
 ghost use Rattle.supervisor.specs.Calls as calls;
 ghost use Rattle.supervisor.specs.Calls.{outcome, outcomeOf};
-ghost use Rattle.supervisor.specs.Operations.{system, bytesOf, advanced, afterRun};
-ghost use Rattle.supervisor.specs.Table.{endOf, sound};
-use crate::refusals::memory_refusal;
+ghost use Rattle.supervisor.specs.System.{system};
+ghost use Rattle.supervisor.specs.Running.{machineBytes, afterQuantum, afterRun};
+ghost use Rattle.supervisor.specs.Table.{partitionEnd};
+ghost use Rattle.supervisor.specs.Sound.{tableSound};
+use crate::conditions::memory_refusal;
 use crate::table::Answer;
 use crate::table::Slot;
 use crate::table::Table;
 use cpu::State;
 
 // One slot's quantum: its machine is lent its partition's bytes and nothing else.
-fn quantum(slot: Slot, memory: &mut [u8]) -> State
-    requires { ⌜ endOf (slot .partition) ≤ length (now memory) ⌝ }
-    ensures { λ r. ⌜ r ≡ advanced slot (now (memory .entry)) .state ⌝ }
-    ensures { λ _. ⌜ now (memory .exit) ≡ copied (now (memory .entry)) (slot .partition .base .0) (bytesOf (advanced slot (now (memory .entry)))) ⌝ }
+fn slot_quantum(slot: Slot, memory: &mut [u8]) -> State
+    requires { ⌜ partitionEnd (slot .partition) ≤ length (now memory) ⌝ }
+    ensures { λ r. ⌜ r ≡ afterQuantum slot (now (memory .entry)) .state ⌝ }
+    ensures { λ _. ⌜ now (memory .exit) ≡ copied (now (memory .entry)) (slot .partition .base .0) (machineBytes (afterQuantum slot (now (memory .entry)))) ⌝ }
 {
     let p = slot.partition;
     let s = slot.state;
@@ -31,7 +33,7 @@ fn quantum(slot: Slot, memory: &mut [u8]) -> State
 
 // Rounds over all slots, the table changed in place. A slot that is empty or stopped costs a test.
 fn rounds(table: Table, memory: &mut [u8], count: u16) -> Table
-    requires { ⌜ sound table ≡ true ⌝ }
+    requires { ⌜ tableSound table ≡ true ⌝ }
     requires { ⌜ length (now memory) ≡ table .size ⌝ }
     ensures { λ r. ⌜ system r (now (memory .exit)) ≡ afterRun count (system table (now (memory .entry))) ⌝ }
 {
@@ -44,7 +46,7 @@ fn rounds(table: Table, memory: &mut [u8], count: u16) -> Table
             let status = s.state.status;
             if status == 1 {
                 let partition = s.partition;
-                let state = quantum(s, memory);
+                let state = slot_quantum(s, memory);
                 next.slots[k] = Slot { partition, state };
             }
             k += 1;

@@ -5,10 +5,11 @@ use crate::table::Table;
 use common::Layout;
 use common::is_within;
 use cpu::State;
+use cpu::stored_psu;
 ghost use mathlib.Core.Path.{_≡_};
-ghost use Rattle.cpu.specs.State.{storedPsu};
 ghost use Rattle.common.specs.Tests.{allBelow};
-ghost use Rattle.supervisor.specs.Table.{slotAt, allLow, allZero, partitionSound, stateSound, zeroPartition, zeroState, slotSound, apart, clearOf, sound};
+ghost use Rattle.supervisor.specs.Table.{slotAt};
+ghost use Rattle.supervisor.specs.Sound.{allFifteenBits, allZero, partitionSound, stateSound, zeroPartition, zeroState, slotSound, apart, clearOfOthers, tableSound};
 
 fn partition_sound(size: u32, p: Partition) -> bool
     ensures { λ r. ⌜ r ≡ partitionSound size p ⌝ }
@@ -18,8 +19,8 @@ fn partition_sound(size: u32, p: Partition) -> bool
 }
 
 // Whether each address has fifteen bits.
-fn all_low(l: &[u16]) -> bool
-    ensures { λ r. ⌜ r ≡ allLow (now (l .entry)) ⌝ }
+fn all_fifteen_bits(l: &[u16]) -> bool
+    ensures { λ r. ⌜ r ≡ allFifteenBits (now (l .entry)) ⌝ }
 {
     let mut ok = true;
     let mut i = 0;
@@ -54,13 +55,6 @@ fn zero_bytes(l: &[u8]) -> bool
     ok
 }
 
-// PSU without Sense and without the bits that are always zero.
-fn stored(psu: u8) -> u8
-    ensures { λ r. ⌜ r ≡ storedPsu psu ⌝ }
-{
-    psu / 32 % 4 * 32 + psu % 8
-}
-
 fn state_sound(layout: Layout, s: State) -> bool
     ensures { λ r. ⌜ r ≡ stateSound layout s ⌝ }
 {
@@ -68,8 +62,8 @@ fn state_sound(layout: Layout, s: State) -> bool
     let returns = cpu.returns;
     is_within(s.status as usize, State::LAST_STATUS as usize)
         & (cpu.counter < 32768)
-        & all_low(&returns)
-        & (stored(cpu.psu) == cpu.psu)
+        & all_fifteen_bits(&returns)
+        & (stored_psu(cpu.psu) == cpu.psu)
         & (s.read <= s.filled)
         & (s.filled <= layout.input)
         & (s.written <= layout.output)
@@ -126,8 +120,8 @@ fn are_apart(p: Partition, q: Partition) -> bool
 }
 
 // Whether `p` meets the partition of no slot but one.
-pub(crate) fn clear_of(table: Table, but: usize, p: Partition) -> bool
-    ensures { λ r. ⌜ r ≡ clearOf table but p ⌝ }
+pub(crate) fn clear_of_others(table: Table, but: usize, p: Partition) -> bool
+    ensures { λ r. ⌜ r ≡ clearOfOthers table but p ⌝ }
 {
     let mut ok = true;
     let mut j: usize = 0;
@@ -140,7 +134,7 @@ pub(crate) fn clear_of(table: Table, but: usize, p: Partition) -> bool
     ok
 }
 
-fn all_sound(table: Table) -> bool
+fn slots_sound(table: Table) -> bool
     ensures { λ r. ⌜ r ≡ allBelow 8 (λ k. slotSound (table .size) (slotAt table k)) ⌝ }
 {
     let mut ok = true;
@@ -153,23 +147,23 @@ fn all_sound(table: Table) -> bool
     ok
 }
 
-fn all_apart(table: Table) -> bool
-    ensures { λ r. ⌜ r ≡ allBelow 8 (λ k. clearOf table k (slotAt table k .partition)) ⌝ }
+fn slots_apart(table: Table) -> bool
+    ensures { λ r. ⌜ r ≡ allBelow 8 (λ k. clearOfOthers table k (slotAt table k .partition)) ⌝ }
 {
     let mut ok = true;
     let mut k: usize = 0;
     while k < Table::SLOTS {
         let s = table.slots[k];
         let p = s.partition;
-        ok = ok & clear_of(table, k, p);
+        ok = ok & clear_of_others(table, k, p);
         k += 1;
     }
     ok
 }
 
 // Whether the table is sound. That it has eight slots is its type.
-pub(crate) fn is_sound(table: Table) -> bool
-    ensures { λ r. ⌜ r ≡ sound table ⌝ }
+pub(crate) fn table_sound(table: Table) -> bool
+    ensures { λ r. ⌜ r ≡ tableSound table ⌝ }
 {
-    is_within(table.size as usize, Table::LONGEST) & all_sound(table) & all_apart(table)
+    is_within(table.size as usize, Table::MAX_MEMORY) & slots_sound(table) & slots_apart(table)
 }

@@ -6,10 +6,9 @@ use common::is_within;
 use cpu::Cpu;
 use cpu::State;
 ghost use mathlib.Core.Path.{_≡_};
-ghost use Rattle.supervisor.specs.Table.{noPartition, endOf};
-ghost use Rattle.supervisor.specs.Operations.{emptySlot, tableOf, newRefusal, newOf};
+ghost use Rattle.supervisor.specs.Table.{noPartition, partitionEnd, emptySlot, emptyTable, newRefusal, newTable};
 
-// What stays of a slot from load to unload (document 01's bay): where its bytes start in memory, how they are parted, and how many
+// What stays of a slot from load to unload (document 01's bay): where its bytes start in memory, how they are divided, and how many
 // steps it takes in a round (document 01's stint).
 pub struct Partition {
     pub base: Location,
@@ -36,11 +35,11 @@ impl Partition {
 
     // The place behind its last byte.
     pub(crate) fn end(self) -> usize
-        ensures { λ r. ⌜ r ≡ endOf self ⌝ }
+        ensures { λ r. ⌜ r ≡ partitionEnd self ⌝ }
     {
         let base = self.base;
         let layout = self.layout;
-        base.0 as usize + layout.bytes()
+        base.0 as usize + layout.size()
     }
 }
 
@@ -77,10 +76,10 @@ impl Table {
     // How many slots there are, and the length of the longest memory.
     pub const SLOTS: usize = 8;
 
-    pub const LONGEST: usize = 65536;
+    pub const MAX_MEMORY: usize = 65536;
 
-    fn of_size(size: u32) -> Table
-        ensures { λ t. ⌜ t ≡ tableOf size ⌝ }
+    fn empty(size: u32) -> Table
+        ensures { λ t. ⌜ t ≡ emptyTable size ⌝ }
     {
         let empty = Slot::empty();
         let slots = [empty; 8];
@@ -90,13 +89,13 @@ impl Table {
     // Document 01's fresh record, for a memory of that length, which it does not touch.
     pub fn new(length: usize) -> Answer
         ensures { λ r. ⌜ r .refusal ≡ newRefusal length ⌝ }
-        ensures { λ r. ⌜ r .table ≡ newOf length ⌝ }
+        ensures { λ r. ⌜ r .table ≡ newTable length ⌝ }
     {
-        if !is_within(length, Table::LONGEST) {
-            let table = Table::of_size(0);
+        if !is_within(length, Table::MAX_MEMORY) {
+            let table = Table::empty(0);
             return Answer { refusal: 2, table };
         }
-        let table = Table::of_size(length as u32);
+        let table = Table::empty(length as u32);
         Answer { refusal: 0, table }
     }
 }

@@ -1,18 +1,18 @@
 // Unloading: the partition is zeroed, so that nothing of the pattern is left, and the slot emptied.
-use crate::refusals::slot_refusal;
+use crate::conditions::memory_loaded_refusal;
 use crate::table::Answer;
 use crate::table::Slot;
 use crate::table::Table;
 ghost use mathlib.Core.Path.{_≡_};
 ghost use Rattle.supervisor.specs.Calls as calls;
 ghost use Rattle.supervisor.specs.Calls.{outcome, outcomeOf};
-ghost use Rattle.supervisor.specs.Operations.{system};
+ghost use Rattle.supervisor.specs.System.{system};
 
 // Document 01's lift.
 pub fn unload(table: Table, memory: &mut [u8], slot: usize) -> Answer
     ensures { λ r. ⌜ outcome (r .refusal) (r .table) (now (memory .exit)) ≡ outcomeOf (calls.change slot calls.unload) (system table (now (memory .entry))) ⌝ }
 {
-    let number = slot_refusal(table, &memory[..], slot);
+    let number = memory_loaded_refusal(table, &memory[..], slot);
     if number != 0 {
         return Answer {
             refusal: number,
@@ -23,7 +23,7 @@ pub fn unload(table: Table, memory: &mut [u8], slot: usize) -> Answer
     let p = s.partition;
     let base = p.base;
     let layout = p.layout;
-    slices::fill(memory, base.0 as usize, layout.bytes(), 0);
+    slices::fill(memory, base.0 as usize, layout.size(), 0);
     let empty = Slot::empty();
     let mut next = table;
     next.slots[slot] = empty;

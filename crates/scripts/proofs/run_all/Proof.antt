@@ -1,4 +1,4 @@
--- `scripts::run_all`: safe and ends: each turn passes an entry.
+-- `scripts::run_all`: safe and ends: each iteration passes an entry.
 use mathlib.Core.Path.{_≡_, refl, _∙_}
 use Prim.Native.Nat.{_-_}
 use native.Mathlib.Omega.{arith}

@@ -1,5 +1,8 @@
+-- `vectors::compare_all`: safe and ends: each iteration passes an entry.
 use Prim.Native.Nat.{_-_}
 use native.Mathlib.Omega.{arith}
+use lib.ListN.{length}
+use borrow.Author.Needs.{needs}
 use Rattle.vectors.proofs.compare_all.Statement.{statement}
 use Rattle.vectors.proofs.compare_all.Tie as tie
 
@@ -7,13 +10,10 @@ abbrev Inv-loop : tie.InvT-loop
 Inv-loop entries tally₀ at₀ tally at = Unit {0}
 
 abbrev μ-loop : tie.MeasureT-loop
-μ-loop entries tally₀ at₀ tally at = 262144 - at
+μ-loop entries tally₀ at₀ tally at = length entries - at
 
 loop-holds : tie.Need-loop-holds Inv-loop μ-loop
 loop-holds c = tt
-
-returns : tie.Need-returns Inv-loop μ-loop
-returns c = tt
 
 rest-requires : tie.Need-rest-requires Inv-loop μ-loop
 rest-requires c κs = tt
@@ -21,20 +21,20 @@ rest-requires c κs = tt
 compare-requires : tie.Need-compare-requires Inv-loop μ-loop
 compare-requires c κs = tt
 
-entry-length-requires : tie.Need-entry-length-requires Inv-loop μ-loop
-entry-length-requires c κs = tt
+length-requires : tie.Need-length-requires Inv-loop μ-loop
+length-requires c κs = tt
 
 add-at : tie.Need-add-at Inv-loop μ-loop
-add-at c = omega (arith, c .entry-length .ensures)
+add-at c = omega (arith, c .length .ensures)
 
 loop-less : tie.Need-loop-less Inv-loop μ-loop
-loop-less c = omega (arith, c .entry-length .ensures)
+loop-less c = omega (arith, c .length .ensures)
 
 loop-again : tie.Need-loop-again Inv-loop μ-loop
 loop-again c = tt
 
-returns-2 : tie.Need-returns-2 Inv-loop μ-loop
-returns-2 c = tt
+returns : tie.Need-returns Inv-loop μ-loop
+returns c = search needs
 
 pub compare-all-spec : {M : Type 1} → statement M
 compare-all-spec =
@@ -43,11 +43,10 @@ compare-all-spec =
     Inv-loop
     μ-loop
     loop-holds
-    returns
     rest-requires
     compare-requires
-    entry-length-requires
+    length-requires
     add-at
     loop-less
     loop-again
-    returns-2)
+    returns)

@@ -1,4 +1,4 @@
-use Rattle.cpu.specs.Address.{pointerOf, withByte}
+use Rattle.cpu.specs.Address.{pointerOf, ifFetched}
 use mathlib.Core.Path.{_∙_, sym}
 use borrow.Author.Needs.{needs}
 use Rattle.cpu.proofs.address.pointer.Statement.{statement}
@@ -14,12 +14,12 @@ enum-told : tie.Need-enum-told
 enum-told c = search needs
 
 returns : tie.Need-returns
-unfolding pointerOf withByte
+unfolding pointerOf ifFetched
 returns c =
     rw (sym (c .before .before .fetch .ensures) ∙ c .enum-told .given .1)
 
-in-page-requires : tie.Need-in-page-requires
-in-page-requires c κs = search needs
+add-in-page-requires : tie.Need-add-in-page-requires
+add-in-page-requires c κs = search needs
 
 fetch-requires-2 : tie.Need-fetch-requires-2
 fetch-requires-2 c κs = search needs
@@ -31,25 +31,25 @@ enum-told-2 : tie.Need-enum-told-2
 enum-told-2 c = search needs
 
 returns-2 : tie.Need-returns-2
-unfolding pointerOf withByte
+unfolding pointerOf ifFetched
 returns-2 c =
     rw (
       sym (c .before .before .before .before .before .before .before .fetch .ensures) ∙ c .before .before .before .before .before .high .given .1,
-      ← c .before .before .before .in-page .ensures,
+      ← c .before .before .before .add-in-page .ensures,
       sym (c .before .before .fetch2 .ensures) ∙ c .enum-told2 .given .1,
     )
 
-joined-requires : tie.Need-joined-requires
-joined-requires c κs = search needs
+address-of-requires : tie.Need-address-of-requires
+address-of-requires c κs = search needs
 
 returns-3 : tie.Need-returns-3
-unfolding pointerOf withByte
+unfolding pointerOf ifFetched
 returns-3 c =
     rw (
       sym (c .before .before .before .before .before .before .before .before .before .fetch .ensures) ∙ c .before .before .before .before .before .before .before .high .given .1,
-      ← c .before .before .before .before .before .in-page .ensures,
+      ← c .before .before .before .before .before .add-in-page .ensures,
       sym (c .before .before .before .before .fetch2 .ensures) ∙ c .before .before .low .given .1,
-      ← c .joined .ensures,
+      ← c .address-of .ensures,
     )
 
 pub pointer-spec : {M : Type 1} → statement M
@@ -60,10 +60,10 @@ pointer-spec =
     enum-known-high
     enum-told
     returns
-    in-page-requires
+    add-in-page-requires
     fetch-requires-2
     enum-known-low
     enum-told-2
     returns-2
-    joined-requires
+    address-of-requires
     returns-3)

@@ -1,4 +1,4 @@
-use Rattle.cpu.proofs.Tests.{tests}
+use Rattle.cpu.proofs.TestRules.{tests}
 use Rattle.cpu.specs.Alu.{carryInOf}
 use Rattle.common.specs.Choice.{if_then_else_}
 use native.Mathlib.Omega.{arith}

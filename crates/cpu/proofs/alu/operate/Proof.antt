@@ -6,26 +6,26 @@ use Rattle.cpu.proofs.alu.operate.Tie as tie
 enum-told : tie.Need-enum-told
 enum-told c = search needs
 
-loaded-requires : tie.Need-loaded-requires
-loaded-requires c κs = search needs
+load-result-requires : tie.Need-load-result-requires
+load-result-requires c κs = search needs
 
 enum-told-2 : tie.Need-enum-told-2
 enum-told-2 c = search needs
 
-loaded-requires-2 : tie.Need-loaded-requires-2
-loaded-requires-2 c κs = search needs
+load-result-requires-2 : tie.Need-load-result-requires-2
+load-result-requires-2 c κs = search needs
 
 enum-told-3 : tie.Need-enum-told-3
 enum-told-3 c = search needs
 
-loaded-requires-3 : tie.Need-loaded-requires-3
-loaded-requires-3 c κs = search needs
+load-result-requires-3 : tie.Need-load-result-requires-3
+load-result-requires-3 c κs = search needs
 
 enum-told-4 : tie.Need-enum-told-4
 enum-told-4 c = search needs
 
-loaded-requires-4 : tie.Need-loaded-requires-4
-loaded-requires-4 c κs = search needs
+load-result-requires-4 : tie.Need-load-result-requires-4
+load-result-requires-4 c κs = search needs
 
 enum-told-5 : tie.Need-enum-told-5
 enum-told-5 c = search needs
@@ -33,35 +33,35 @@ enum-told-5 c = search needs
 carry-in-requires : tie.Need-carry-in-requires
 carry-in-requires c κs = search needs
 
-added-requires : tie.Need-added-requires
-added-requires c κs = search needs
+sum-result-requires : tie.Need-sum-result-requires
+sum-result-requires c κs = search needs
 
 enum-told-6 : tie.Need-enum-told-6
 enum-told-6 c = search needs
 
-sub-added : tie.Need-sub-added
-sub-added c = search needs
+sub-sum-result : tie.Need-sub-sum-result
+sub-sum-result c = search needs
 
 carry-in-requires-2 : tie.Need-carry-in-requires-2
 carry-in-requires-2 c κs = search needs
 
-added-requires-2 : tie.Need-added-requires-2
-added-requires-2 c κs = search needs
+sum-result-requires-2 : tie.Need-sum-result-requires-2
+sum-result-requires-2 c κs = search needs
 
 enum-told-7 : tie.Need-enum-told-7
 enum-told-7 c = search needs
 
-compared-requires : tie.Need-compared-requires
-compared-requires c κs = search needs
+compare-result-requires : tie.Need-compare-result-requires
+compare-result-requires c κs = search needs
 
 returns : tie.Need-returns
 unfolding operateOf
 returns c = (
   rw (
     c .before .enum-told .given .1,
-    ← c .loaded .ensures .0,
+    ← c .load-result .ensures .0,
   ),
-  c .loaded .ensures .1,
+  c .load-result .ensures .1,
 )
 
 returns-2 : tie.Need-returns-2
@@ -69,9 +69,9 @@ unfolding operateOf
 returns-2 c = (
   rw (
     c .before .enum-told2 .given .1,
-    ← c .loaded2 .ensures .0,
+    ← c .load-result2 .ensures .0,
   ),
-  c .loaded2 .ensures .1,
+  c .load-result2 .ensures .1,
 )
 
 returns-3 : tie.Need-returns-3
@@ -79,9 +79,9 @@ unfolding operateOf
 returns-3 c = (
   rw (
     c .before .enum-told3 .given .1,
-    ← c .loaded3 .ensures .0,
+    ← c .load-result3 .ensures .0,
   ),
-  c .loaded3 .ensures .1,
+  c .load-result3 .ensures .1,
 )
 
 returns-4 : tie.Need-returns-4
@@ -89,9 +89,9 @@ unfolding operateOf
 returns-4 c = (
   rw (
     c .before .enum-told4 .given .1,
-    ← c .loaded4 .ensures .0,
+    ← c .load-result4 .ensures .0,
   ),
-  c .loaded4 .ensures .1,
+  c .load-result4 .ensures .1,
 )
 
 returns-5 : tie.Need-returns-5
@@ -100,9 +100,9 @@ returns-5 c = (
   rw (
     c .before .before .enum-told5 .given .1,
     ← c .before .carry-in .ensures .0,
-    ← c .added .ensures .0,
+    ← c .sum-result .ensures .0,
   ),
-  c .added .ensures .1,
+  c .sum-result .ensures .1,
 )
 
 returns-6 : tie.Need-returns-6
@@ -111,9 +111,9 @@ returns-6 c = (
   rw (
     c .before .before .enum-told6 .given .1,
     ← c .before .carry-in2 .ensures .0,
-    ← c .added2 .ensures .0,
+    ← c .sum-result2 .ensures .0,
   ),
-  c .added2 .ensures .1,
+  c .sum-result2 .ensures .1,
 )
 
 returns-7 : tie.Need-returns-7
@@ -121,9 +121,9 @@ unfolding operateOf
 returns-7 c = (
   rw (
     c .before .enum-told7 .given .1,
-    ← c .compared .ensures .0,
+    ← c .compare-result .ensures .0,
   ),
-  c .compared .ensures .1,
+  c .compare-result .ensures .1,
 )
 
 pub operate-spec : {M : Type 1} → statement M
@@ -131,22 +131,22 @@ operate-spec =
     tie.close
     (tie.spec
     enum-told
-    loaded-requires
+    load-result-requires
     enum-told-2
-    loaded-requires-2
+    load-result-requires-2
     enum-told-3
-    loaded-requires-3
+    load-result-requires-3
     enum-told-4
-    loaded-requires-4
+    load-result-requires-4
     enum-told-5
     carry-in-requires
-    added-requires
+    sum-result-requires
     enum-told-6
-    sub-added
+    sub-sum-result
     carry-in-requires-2
-    added-requires-2
+    sum-result-requires-2
     enum-told-7
-    compared-requires
+    compare-result-requires
     returns
     returns-2
     returns-3

@@ -1,4 +1,4 @@
-use Rattle.cpu.proofs.Sums.{carries-fit, overflow-law}
+use Rattle.cpu.proofs.SumLaws.{carries-fit, overflow-law}
 use native.Mathlib.Omega.{arith}
 use borrow.Author.Needs.{needs}
 use Rattle.cpu.proofs.alu.overflow.Statement.{statement}

@@ -1,4 +1,4 @@
-use Rattle.cpu.proofs.Signed16.{minus-back, minus-fits, small}
+use Rattle.cpu.proofs.Signed16Laws.{signed-minus-back, signed-minus-fits, as-signed}
 use Rattle.cpu.specs.Alu.{signedOf}
 use Rattle.common.specs.Choice.{if_then_else_}
 use borrow.Author.Tests.{le-ltb, lt-ltb}
@@ -14,15 +14,15 @@ cast-result-2 : tie.Need-cast-result-2
 cast-result-2 c = search needs
 
 sub-result : tie.Need-sub-result
-sub-result c = minus-fits (c .before .args .b) 255 (omega arith) (omega arith)
+sub-result c = signed-minus-fits (c .before .args .b) 255 (omega arith) (omega arith)
 
 returns : tie.Need-returns
 unfolding signedOf if_then_else_
-returns c = rw (lt-ltb _ _ (c .if1 .taken)) (small (c .before .args .b) (omega arith))
+returns c = rw (lt-ltb _ _ (c .if1 .taken)) (as-signed (c .before .args .b) (omega arith))
 
 returns-2 : tie.Need-returns-2
 unfolding signedOf if_then_else_
-returns-2 c = rw (le-ltb _ _ (c .if1 .left)) (minus-back (c .before .args .b) 255 (omega arith) (omega arith))
+returns-2 c = rw (le-ltb _ _ (c .if1 .left)) (signed-minus-back (c .before .args .b) 255 (omega arith) (omega arith))
 
 pub signed-spec : {M : Type 1} → statement M
 signed-spec = tie.close (tie.spec cast-result cast-result-2 sub-result returns returns-2)

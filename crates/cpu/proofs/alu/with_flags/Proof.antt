@@ -1,4 +1,4 @@
-use Rattle.cpu.proofs.Sums.{bank-kept}
+use Rattle.cpu.proofs.SumLaws.{bank-kept}
 use mathlib.Core.Path.{refl}
 use borrow.Author.Needs.{needs}
 use Rattle.cpu.proofs.alu.with_flags.Statement.{statement}

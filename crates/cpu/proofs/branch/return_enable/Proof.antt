@@ -8,14 +8,14 @@ use Rattle.cpu.proofs.branch.return_enable.Tie as tie
 psl-requires : tie.Need-psl-requires
 psl-requires c κs = search needs
 
-meets-requires : tie.Need-meets-requires
-meets-requires c κs = search needs
+condition-met-requires : tie.Need-condition-met-requires
+condition-met-requires c κs = search needs
 
-ret-requires : tie.Need-ret-requires
-ret-requires c κs = search needs
+return-from-call-requires : tie.Need-return-from-call-requires
+return-from-call-requires c κs = search needs
 
-enabled-requires : tie.Need-enabled-requires
-enabled-requires c κs = search needs
+clear-ii-requires : tie.Need-clear-ii-requires
+clear-ii-requires c κs = search needs
 
 going-requires : tie.Need-going-requires
 going-requires c κs = search needs
@@ -31,9 +31,9 @@ unfolding returnEnableOf if_then_else_
 returns c =
     rw (
       ← c .before .before .before .before .before .psl .ensures,
-      sym (c .before .before .before .before .meets .ensures) ∙ c .before .before .before .if1 .taken,
-      ← c .before .before .ret .ensures,
-      ← c .before .enabled .ensures,
+      sym (c .before .before .before .before .condition-met .ensures) ∙ c .before .before .before .if1 .taken,
+      ← c .before .before .return-from-call .ensures,
+      ← c .before .clear-ii .ensures,
       ← c .going .ensures,
     )
 
@@ -42,7 +42,7 @@ unfolding returnEnableOf if_then_else_
 returns-2 c =
     rw (
       ← c .before .before .before .before .psl .ensures,
-      sym (c .before .before .before .meets .ensures) ∙ c .before .before .if1 .left,
+      sym (c .before .before .before .condition-met .ensures) ∙ c .before .before .if1 .left,
       ← c .before .advanced .ensures,
       ← c .going2 .ensures,
     )
@@ -52,9 +52,9 @@ return-enable-spec =
     tie.close
     (tie.spec
     psl-requires
-    meets-requires
-    ret-requires
-    enabled-requires
+    condition-met-requires
+    return-from-call-requires
+    clear-ii-requires
     going-requires
     advanced-requires
     going-requires-2

@@ -8,11 +8,11 @@ use Rattle.cpu.proofs.branch.return_if.Tie as tie
 psl-requires : tie.Need-psl-requires
 psl-requires c κs = search needs
 
-meets-requires : tie.Need-meets-requires
-meets-requires c κs = search needs
+condition-met-requires : tie.Need-condition-met-requires
+condition-met-requires c κs = search needs
 
-ret-requires : tie.Need-ret-requires
-ret-requires c κs = search needs
+return-from-call-requires : tie.Need-return-from-call-requires
+return-from-call-requires c κs = search needs
 
 going-requires : tie.Need-going-requires
 going-requires c κs = search needs
@@ -28,8 +28,8 @@ unfolding returnIfOf if_then_else_
 returns c =
     rw (
       ← c .before .before .before .before .psl .ensures,
-      sym (c .before .before .before .meets .ensures) ∙ c .before .before .if1 .taken,
-      ← c .before .ret .ensures,
+      sym (c .before .before .before .condition-met .ensures) ∙ c .before .before .if1 .taken,
+      ← c .before .return-from-call .ensures,
       ← c .going .ensures,
     )
 
@@ -38,7 +38,7 @@ unfolding returnIfOf if_then_else_
 returns-2 c =
     rw (
       ← c .before .before .before .before .psl .ensures,
-      sym (c .before .before .before .meets .ensures) ∙ c .before .before .if1 .left,
+      sym (c .before .before .before .condition-met .ensures) ∙ c .before .before .if1 .left,
       ← c .before .advanced .ensures,
       ← c .going2 .ensures,
     )
@@ -48,8 +48,8 @@ return-if-spec =
     tie.close
     (tie.spec
     psl-requires
-    meets-requires
-    ret-requires
+    condition-met-requires
+    return-from-call-requires
     going-requires
     advanced-requires
     going-requires-2

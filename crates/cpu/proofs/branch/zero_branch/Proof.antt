@@ -1,12 +1,12 @@
-use Rattle.cpu.specs.Address.{withAddress, withByte}
+use Rattle.cpu.specs.Address.{ifLocated, ifFetched}
 use Rattle.cpu.specs.Branch.{zeroBranchOf}
 use mathlib.Core.Path.{_∙_, sym}
 use borrow.Author.Needs.{needs}
 use Rattle.cpu.proofs.branch.zero_branch.Statement.{statement}
 use Rattle.cpu.proofs.branch.zero_branch.Tie as tie
 
-after-requires : tie.Need-after-requires
-after-requires c κs = search needs
+address-after-requires : tie.Need-address-after-requires
+address-after-requires c κs = search needs
 
 fetch-requires : tie.Need-fetch-requires
 fetch-requires c κs = search needs
@@ -21,10 +21,10 @@ stopped-requires : tie.Need-stopped-requires
 stopped-requires c κs = search needs
 
 returns : tie.Need-returns
-unfolding zeroBranchOf withByte withAddress
+unfolding zeroBranchOf ifFetched ifLocated
 returns c =
     rw (
-      ← c .before .before .before .before .after .ensures,
+      ← c .before .before .before .before .address-after .ensures,
       sym (c .before .before .before .fetch .ensures) ∙ c .before .enum-told .given .1,
       ← c .stopped .ensures,
     )
@@ -32,8 +32,8 @@ returns c =
 relative-requires : tie.Need-relative-requires
 relative-requires c κs = search needs
 
-through-requires : tie.Need-through-requires
-through-requires c κs = search needs
+resolve-requires : tie.Need-resolve-requires
+resolve-requires c κs = search needs
 
 enum-known-t : tie.Need-enum-known-t
 enum-known-t c = search needs
@@ -45,50 +45,50 @@ stopped-requires-2 : tie.Need-stopped-requires-2
 stopped-requires-2 c κs = search needs
 
 returns-2 : tie.Need-returns-2
-unfolding zeroBranchOf withByte withAddress
+unfolding zeroBranchOf ifFetched ifLocated
 returns-2 c =
     rw (
-      ← c .before .before .before .before .before .before .before .before .before .after .ensures,
+      ← c .before .before .before .before .before .before .before .before .before .address-after .ensures,
       sym (c .before .before .before .before .before .before .before .before .fetch .ensures) ∙ c .before .before .before .before .before .before .b .given .1,
       ← c .before .before .before .before .relative .ensures,
-      sym (c .before .before .before .through .ensures) ∙ c .before .enum-told2 .given .1,
+      sym (c .before .before .before .resolve .ensures) ∙ c .before .enum-told2 .given .1,
       ← c .stopped2 .ensures,
     )
 
-after-requires-2 : tie.Need-after-requires-2
-after-requires-2 c κs = search needs
+address-after-requires-2 : tie.Need-address-after-requires-2
+address-after-requires-2 c κs = search needs
 
-jumped-requires : tie.Need-jumped-requires
-jumped-requires c κs = search needs
+jump-requires : tie.Need-jump-requires
+jump-requires c κs = search needs
 
 returns-3 : tie.Need-returns-3
-unfolding zeroBranchOf withByte withAddress
+unfolding zeroBranchOf ifFetched ifLocated
 returns-3 c =
     rw (
-      ← c .before .before .before .before .before .before .before .before .before .before .before .after .ensures,
+      ← c .before .before .before .before .before .before .before .before .before .before .before .address-after .ensures,
       sym (c .before .before .before .before .before .before .before .before .before .before .fetch .ensures) ∙ c .before .before .before .before .before .before .before .before .b .given .1,
       ← c .before .before .before .before .before .before .relative .ensures,
-      sym (c .before .before .before .before .before .through .ensures) ∙ c .before .before .before .t .given .1,
-      ← c .before .after2 .ensures,
-      ← c .jumped .ensures,
+      sym (c .before .before .before .before .before .resolve .ensures) ∙ c .before .before .before .t .given .1,
+      ← c .before .address-after2 .ensures,
+      ← c .jump .ensures,
     )
 
 pub zero-branch-spec : {M : Type 1} → statement M
 zero-branch-spec =
     tie.close
     (tie.spec
-    after-requires
+    address-after-requires
     fetch-requires
     enum-known-b
     enum-told
     stopped-requires
     returns
     relative-requires
-    through-requires
+    resolve-requires
     enum-known-t
     enum-told-2
     stopped-requires-2
     returns-2
-    after-requires-2
-    jumped-requires
+    address-after-requires-2
+    jump-requires
     returns-3)

@@ -1,4 +1,4 @@
-use Rattle.cpu.specs.Core.{offeredOf}
+use Rattle.cpu.specs.PackedCpu.{portsOfView}
 use Rattle.cpu.specs.Instruction.{executeOf}
 use borrow.Author.Needs.{needs}
 use Rattle.cpu.proofs.instruction.execute.Statement.{statement}
@@ -25,8 +25,8 @@ stopped-requires-3 c κs = search needs
 enum-known-i : tie.Need-enum-known-i
 enum-known-i c = search needs
 
-with-operand-requires : tie.Need-with-operand-requires
-with-operand-requires c κs = search needs
+operate-on-operand-requires : tie.Need-operate-on-operand-requires
+operate-on-operand-requires c κs = search needs
 
 enum-told-4 : tie.Need-enum-told-4
 enum-told-4 c = search needs
@@ -37,11 +37,11 @@ register-requires c κs = search needs
 psl-requires : tie.Need-psl-requires
 psl-requires c κs = search needs
 
-loaded-requires : tie.Need-loaded-requires
-loaded-requires c κs = search needs
+load-result-requires : tie.Need-load-result-requires
+load-result-requires c κs = search needs
 
-changed-requires : tie.Need-changed-requires
-changed-requires c κs = search needs
+register-changed-requires : tie.Need-register-changed-requires
+register-changed-requires c κs = search needs
 
 enum-told-5 : tie.Need-enum-told-5
 enum-told-5 c = search needs
@@ -64,17 +64,17 @@ ended-requires c κs = search needs
 enum-told-7 : tie.Need-enum-told-7
 enum-told-7 c = search needs
 
-sensed-requires : tie.Need-sensed-requires
-sensed-requires c κs = search needs
+psu-with-sense-requires : tie.Need-psu-with-sense-requires
+psu-with-sense-requires c κs = search needs
 
 psl-requires-2 : tie.Need-psl-requires-2
 psl-requires-2 c κs = search needs
 
-loaded-requires-2 : tie.Need-loaded-requires-2
-loaded-requires-2 c κs = search needs
+load-result-requires-2 : tie.Need-load-result-requires-2
+load-result-requires-2 c κs = search needs
 
-changed-requires-2 : tie.Need-changed-requires-2
-changed-requires-2 c κs = search needs
+register-changed-requires-2 : tie.Need-register-changed-requires-2
+register-changed-requires-2 c κs = search needs
 
 enum-told-8 : tie.Need-enum-told-8
 enum-told-8 c = search needs
@@ -82,11 +82,11 @@ enum-told-8 c = search needs
 psl-requires-3 : tie.Need-psl-requires-3
 psl-requires-3 c κs = search needs
 
-loaded-requires-3 : tie.Need-loaded-requires-3
-loaded-requires-3 c κs = search needs
+load-result-requires-3 : tie.Need-load-result-requires-3
+load-result-requires-3 c κs = search needs
 
-changed-requires-3 : tie.Need-changed-requires-3
-changed-requires-3 c κs = search needs
+register-changed-requires-3 : tie.Need-register-changed-requires-3
+register-changed-requires-3 c κs = search needs
 
 enum-told-9 : tie.Need-enum-told-9
 enum-told-9 c = search needs
@@ -94,8 +94,8 @@ enum-told-9 c = search needs
 register-requires-2 : tie.Need-register-requires-2
 register-requires-2 c κs = search needs
 
-stored-requires : tie.Need-stored-requires
-stored-requires c κs = search needs
+stored-psu-requires : tie.Need-stored-psu-requires
+stored-psu-requires c κs = search needs
 
 with-psu-requires : tie.Need-with-psu-requires
 with-psu-requires c κs = search needs
@@ -148,8 +148,8 @@ preset-psl-requires c κs = search needs
 enum-told-15 : tie.Need-enum-told-15
 enum-told-15 c = search needs
 
-sensed-requires-2 : tie.Need-sensed-requires-2
-sensed-requires-2 c κs = search needs
+psu-with-sense-requires-2 : tie.Need-psu-with-sense-requires-2
+psu-with-sense-requires-2 c κs = search needs
 
 tested-requires : tie.Need-tested-requires
 tested-requires c κs = search needs
@@ -181,11 +181,11 @@ register-requires-5 c κs = search needs
 psl-requires-5 : tie.Need-psl-requires-5
 psl-requires-5 c κs = search needs
 
-decimal-requires : tie.Need-decimal-requires
-decimal-requires c κs = search needs
+decimal-adjust-requires : tie.Need-decimal-adjust-requires
+decimal-adjust-requires c κs = search needs
 
-changed-requires-4 : tie.Need-changed-requires-4
-changed-requires-4 c κs = search needs
+register-changed-requires-4 : tie.Need-register-changed-requires-4
+register-changed-requires-4 c κs = search needs
 
 enum-told-19 : tie.Need-enum-told-19
 enum-told-19 c = search needs
@@ -199,8 +199,8 @@ psl-requires-6 c κs = search needs
 rotate-right-requires : tie.Need-rotate-right-requires
 rotate-right-requires c κs = search needs
 
-changed-requires-5 : tie.Need-changed-requires-5
-changed-requires-5 c κs = search needs
+register-changed-requires-5 : tie.Need-register-changed-requires-5
+register-changed-requires-5 c κs = search needs
 
 enum-told-20 : tie.Need-enum-told-20
 enum-told-20 c = search needs
@@ -214,20 +214,20 @@ psl-requires-7 c κs = search needs
 rotate-left-requires : tie.Need-rotate-left-requires
 rotate-left-requires c κs = search needs
 
-changed-requires-6 : tie.Need-changed-requires-6
-changed-requires-6 c κs = search needs
+register-changed-requires-6 : tie.Need-register-changed-requires-6
+register-changed-requires-6 c κs = search needs
 
 enum-told-21 : tie.Need-enum-told-21
 enum-told-21 c = search needs
 
-read-requires : tie.Need-read-requires
-read-requires c κs = search needs
+read-data-requires : tie.Need-read-data-requires
+read-data-requires c κs = search needs
 
 enum-told-22 : tie.Need-enum-told-22
 enum-told-22 c = search needs
 
-write-requires : tie.Need-write-requires
-write-requires c κs = search needs
+write-data-requires : tie.Need-write-data-requires
+write-data-requires c κs = search needs
 
 enum-told-23 : tie.Need-enum-told-23
 enum-told-23 c = search needs
@@ -272,7 +272,7 @@ indexed-branch-requires-2 : tie.Need-indexed-branch-requires-2
 indexed-branch-requires-2 c κs = search needs
 
 returns : tie.Need-returns
-unfolding executeOf offeredOf
+unfolding executeOf portsOfView
 returns c =
     rw (
       c .before .enum-told .given .1,
@@ -280,7 +280,7 @@ returns c =
     )
 
 returns-2 : tie.Need-returns-2
-unfolding executeOf offeredOf
+unfolding executeOf portsOfView
 returns-2 c =
     rw (
       c .before .enum-told2 .given .1,
@@ -288,7 +288,7 @@ returns-2 c =
     )
 
 returns-3 : tie.Need-returns-3
-unfolding executeOf offeredOf
+unfolding executeOf portsOfView
 returns-3 c =
     rw (
       c .before .enum-told3 .given .1,
@@ -296,26 +296,26 @@ returns-3 c =
     )
 
 returns-4 : tie.Need-returns-4
-unfolding executeOf offeredOf
+unfolding executeOf portsOfView
 returns-4 c =
     rw (
       c .before .before .i .given .1,
-      ← c .with-operand .ensures,
+      ← c .operate-on-operand .ensures,
     )
 
 returns-5 : tie.Need-returns-5
-unfolding executeOf offeredOf
+unfolding executeOf portsOfView
 returns-5 c =
     rw (
       c .before .before .before .before .enum-told4 .given .1,
       ← c .before .before .before .register .ensures,
       ← c .before .before .psl .ensures,
-      ← c .before .loaded .ensures .0,
-      ← c .changed .ensures,
+      ← c .before .load-result .ensures .0,
+      ← c .register-changed .ensures,
     )
 
 returns-6 : tie.Need-returns-6
-unfolding executeOf offeredOf
+unfolding executeOf portsOfView
 returns-6 c =
     rw (
       c .before .before .enum-told5 .given .1,
@@ -324,7 +324,7 @@ returns-6 c =
     )
 
 returns-7 : tie.Need-returns-7
-unfolding executeOf offeredOf
+unfolding executeOf portsOfView
 returns-7 c =
     rw (
       c .before .before .enum-told6 .given .1,
@@ -333,40 +333,40 @@ returns-7 c =
     )
 
 returns-8 : tie.Need-returns-8
-unfolding executeOf offeredOf
+unfolding executeOf portsOfView
 returns-8 c =
     rw (
       c .before .before .before .before .enum-told7 .given .1,
-      ← c .before .before .before .sensed .ensures,
+      ← c .before .before .before .psu-with-sense .ensures,
       ← c .before .before .psl2 .ensures,
-      ← c .before .loaded2 .ensures .0,
-      ← c .changed2 .ensures,
+      ← c .before .load-result2 .ensures .0,
+      ← c .register-changed2 .ensures,
     )
 
 returns-9 : tie.Need-returns-9
-unfolding executeOf offeredOf
+unfolding executeOf portsOfView
 returns-9 c =
     rw (
       c .before .before .before .enum-told8 .given .1,
       ← c .before .before .psl3 .ensures,
-      ← c .before .loaded3 .ensures .0,
-      ← c .changed3 .ensures,
+      ← c .before .load-result3 .ensures .0,
+      ← c .register-changed3 .ensures,
     )
 
 returns-10 : tie.Need-returns-10
-unfolding executeOf offeredOf
+unfolding executeOf portsOfView
 returns-10 c =
     rw (
       c .before .before .before .before .before .enum-told9 .given .1,
       ← c .before .before .before .before .register2 .ensures,
-      ← c .before .before .before .stored .ensures,
+      ← c .before .before .before .stored-psu .ensures,
       ← c .before .before .with-psu .ensures,
       ← c .before .advanced3 .ensures,
       ← c .going2 .ensures,
     )
 
 returns-11 : tie.Need-returns-11
-unfolding executeOf offeredOf
+unfolding executeOf portsOfView
 returns-11 c =
     rw (
       c .before .before .before .before .enum-told10 .given .1,
@@ -377,7 +377,7 @@ returns-11 c =
     )
 
 returns-12 : tie.Need-returns-12
-unfolding executeOf offeredOf
+unfolding executeOf portsOfView
 returns-12 c =
     rw (
       c .before .enum-told11 .given .1,
@@ -385,7 +385,7 @@ returns-12 c =
     )
 
 returns-13 : tie.Need-returns-13
-unfolding executeOf offeredOf
+unfolding executeOf portsOfView
 returns-13 c =
     rw (
       c .before .enum-told12 .given .1,
@@ -393,7 +393,7 @@ returns-13 c =
     )
 
 returns-14 : tie.Need-returns-14
-unfolding executeOf offeredOf
+unfolding executeOf portsOfView
 returns-14 c =
     rw (
       c .before .enum-told13 .given .1,
@@ -401,7 +401,7 @@ returns-14 c =
     )
 
 returns-15 : tie.Need-returns-15
-unfolding executeOf offeredOf
+unfolding executeOf portsOfView
 returns-15 c =
     rw (
       c .before .enum-told14 .given .1,
@@ -409,16 +409,16 @@ returns-15 c =
     )
 
 returns-16 : tie.Need-returns-16
-unfolding executeOf offeredOf
+unfolding executeOf portsOfView
 returns-16 c =
     rw (
       c .before .before .enum-told15 .given .1,
-      ← c .before .sensed2 .ensures,
+      ← c .before .psu-with-sense2 .ensures,
       ← c .tested .ensures,
     )
 
 returns-17 : tie.Need-returns-17
-unfolding executeOf offeredOf
+unfolding executeOf portsOfView
 returns-17 c =
     rw (
       c .before .before .enum-told16 .given .1,
@@ -427,7 +427,7 @@ returns-17 c =
     )
 
 returns-18 : tie.Need-returns-18
-unfolding executeOf offeredOf
+unfolding executeOf portsOfView
 returns-18 c =
     rw (
       c .before .before .enum-told17 .given .1,
@@ -436,56 +436,56 @@ returns-18 c =
     )
 
 returns-19 : tie.Need-returns-19
-unfolding executeOf offeredOf
+unfolding executeOf portsOfView
 returns-19 c =
     rw (
       c .before .before .before .before .enum-told18 .given .1,
       ← c .before .before .before .register5 .ensures,
       ← c .before .before .psl5 .ensures,
-      ← c .before .decimal .ensures .0,
-      ← c .changed4 .ensures,
+      ← c .before .decimal-adjust .ensures .0,
+      ← c .register-changed4 .ensures,
     )
 
 returns-20 : tie.Need-returns-20
-unfolding executeOf offeredOf
+unfolding executeOf portsOfView
 returns-20 c =
     rw (
       c .before .before .before .before .enum-told19 .given .1,
       ← c .before .before .before .register6 .ensures,
       ← c .before .before .psl6 .ensures,
       ← c .before .rotate-right .ensures .0,
-      ← c .changed5 .ensures,
+      ← c .register-changed5 .ensures,
     )
 
 returns-21 : tie.Need-returns-21
-unfolding executeOf offeredOf
+unfolding executeOf portsOfView
 returns-21 c =
     rw (
       c .before .before .before .before .enum-told20 .given .1,
       ← c .before .before .before .register7 .ensures,
       ← c .before .before .psl7 .ensures,
       ← c .before .rotate-left .ensures .0,
-      ← c .changed6 .ensures,
+      ← c .register-changed6 .ensures,
     )
 
 returns-22 : tie.Need-returns-22
-unfolding executeOf offeredOf
+unfolding executeOf portsOfView
 returns-22 c =
     rw (
       c .before .enum-told21 .given .1,
-      ← c .read .ensures,
+      ← c .read-data .ensures,
     )
 
 returns-23 : tie.Need-returns-23
-unfolding executeOf offeredOf
+unfolding executeOf portsOfView
 returns-23 c =
     rw (
       c .before .enum-told22 .given .1,
-      ← c .write .ensures,
+      ← c .write-data .ensures,
     )
 
 returns-24 : tie.Need-returns-24
-unfolding executeOf offeredOf
+unfolding executeOf portsOfView
 returns-24 c =
     rw (
       c .before .enum-told23 .given .1,
@@ -493,7 +493,7 @@ returns-24 c =
     )
 
 returns-25 : tie.Need-returns-25
-unfolding executeOf offeredOf
+unfolding executeOf portsOfView
 returns-25 c =
     rw (
       c .before .enum-told24 .given .1,
@@ -501,7 +501,7 @@ returns-25 c =
     )
 
 returns-26 : tie.Need-returns-26
-unfolding executeOf offeredOf
+unfolding executeOf portsOfView
 returns-26 c =
     rw (
       c .before .before .i2 .given .1,
@@ -509,7 +509,7 @@ returns-26 c =
     )
 
 returns-27 : tie.Need-returns-27
-unfolding executeOf offeredOf
+unfolding executeOf portsOfView
 returns-27 c =
     rw (
       c .before .enum-told25 .given .1,
@@ -517,7 +517,7 @@ returns-27 c =
     )
 
 returns-28 : tie.Need-returns-28
-unfolding executeOf offeredOf
+unfolding executeOf portsOfView
 returns-28 c =
     rw (
       c .before .enum-told26 .given .1,
@@ -525,7 +525,7 @@ returns-28 c =
     )
 
 returns-29 : tie.Need-returns-29
-unfolding executeOf offeredOf
+unfolding executeOf portsOfView
 returns-29 c =
     rw (
       c .before .enum-told27 .given .1,
@@ -533,7 +533,7 @@ returns-29 c =
     )
 
 returns-30 : tie.Need-returns-30
-unfolding executeOf offeredOf
+unfolding executeOf portsOfView
 returns-30 c =
     rw (
       c .before .enum-told28 .given .1,
@@ -551,12 +551,12 @@ execute-spec =
     enum-told-3
     stopped-requires-3
     enum-known-i
-    with-operand-requires
+    operate-on-operand-requires
     enum-told-4
     register-requires
     psl-requires
-    loaded-requires
-    changed-requires
+    load-result-requires
+    register-changed-requires
     enum-told-5
     advanced-requires
     going-requires
@@ -564,17 +564,17 @@ execute-spec =
     advanced-requires-2
     ended-requires
     enum-told-7
-    sensed-requires
+    psu-with-sense-requires
     psl-requires-2
-    loaded-requires-2
-    changed-requires-2
+    load-result-requires-2
+    register-changed-requires-2
     enum-told-8
     psl-requires-3
-    loaded-requires-3
-    changed-requires-3
+    load-result-requires-3
+    register-changed-requires-3
     enum-told-9
     register-requires-2
-    stored-requires
+    stored-psu-requires
     with-psu-requires
     advanced-requires-3
     going-requires-2
@@ -592,7 +592,7 @@ execute-spec =
     enum-told-14
     preset-psl-requires
     enum-told-15
-    sensed-requires-2
+    psu-with-sense-requires-2
     tested-requires
     enum-told-16
     psl-requires-4
@@ -603,22 +603,22 @@ execute-spec =
     enum-told-18
     register-requires-5
     psl-requires-5
-    decimal-requires
-    changed-requires-4
+    decimal-adjust-requires
+    register-changed-requires-4
     enum-told-19
     register-requires-6
     psl-requires-6
     rotate-right-requires
-    changed-requires-5
+    register-changed-requires-5
     enum-told-20
     register-requires-7
     psl-requires-7
     rotate-left-requires
-    changed-requires-6
+    register-changed-requires-6
     enum-told-21
-    read-requires
+    read-data-requires
     enum-told-22
-    write-requires
+    write-data-requires
     enum-told-23
     return-if-requires
     enum-told-24

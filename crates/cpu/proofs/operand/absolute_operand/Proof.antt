@@ -1,12 +1,12 @@
-use Rattle.cpu.specs.Address.{withAddress, withByte}
+use Rattle.cpu.specs.Address.{ifLocated, ifFetched}
 use Rattle.cpu.specs.Operand.{absoluteOperandOf}
 use mathlib.Core.Path.{_∙_, sym}
 use borrow.Author.Needs.{needs}
 use Rattle.cpu.proofs.operand.absolute_operand.Statement.{statement}
 use Rattle.cpu.proofs.operand.absolute_operand.Tie as tie
 
-after-requires : tie.Need-after-requires
-after-requires c κs = search needs
+address-after-requires : tie.Need-address-after-requires
+address-after-requires c κs = search needs
 
 fetch-requires : tie.Need-fetch-requires
 fetch-requires c κs = search needs
@@ -18,15 +18,15 @@ enum-told : tie.Need-enum-told
 enum-told c = search needs
 
 returns : tie.Need-returns
-unfolding absoluteOperandOf withByte withAddress
+unfolding absoluteOperandOf ifFetched ifLocated
 returns c =
     rw (
-      ← c .before .before .before .after .ensures,
+      ← c .before .before .before .address-after .ensures,
       sym (c .before .before .fetch .ensures) ∙ c .enum-told .given .1,
     )
 
-after-requires-2 : tie.Need-after-requires-2
-after-requires-2 c κs = search needs
+address-after-requires-2 : tie.Need-address-after-requires-2
+address-after-requires-2 c κs = search needs
 
 fetch-requires-2 : tie.Need-fetch-requires-2
 fetch-requires-2 c κs = search needs
@@ -38,12 +38,12 @@ enum-told-2 : tie.Need-enum-told-2
 enum-told-2 c = search needs
 
 returns-2 : tie.Need-returns-2
-unfolding absoluteOperandOf withByte withAddress
+unfolding absoluteOperandOf ifFetched ifLocated
 returns-2 c =
     rw (
-      ← c .before .before .before .before .before .before .before .before .after .ensures,
+      ← c .before .before .before .before .before .before .before .before .address-after .ensures,
       sym (c .before .before .before .before .before .before .before .fetch .ensures) ∙ c .before .before .before .before .before .high .given .1,
-      ← c .before .before .before .after2 .ensures,
+      ← c .before .before .before .address-after2 .ensures,
       sym (c .before .before .fetch2 .ensures) ∙ c .enum-told2 .given .1,
     )
 
@@ -66,12 +66,12 @@ enum-told-3 : tie.Need-enum-told-3
 enum-told-3 c = search needs
 
 returns-3 : tie.Need-returns-3
-unfolding absoluteOperandOf withByte withAddress
+unfolding absoluteOperandOf ifFetched ifLocated
 returns-3 c =
     rw (
-      ← c .before .before .before .before .before .before .before .before .before .before .before .before .before .before .before .after .ensures,
+      ← c .before .before .before .before .before .before .before .before .before .before .before .before .before .before .before .address-after .ensures,
       sym (c .before .before .before .before .before .before .before .before .before .before .before .before .before .before .fetch .ensures) ∙ c .before .before .before .before .before .before .before .before .before .before .before .before .high .given .1,
-      ← c .before .before .before .before .before .before .before .before .before .before .after2 .ensures,
+      ← c .before .before .before .before .before .before .before .before .before .before .address-after2 .ensures,
       sym (c .before .before .before .before .before .before .before .before .before .fetch2 .ensures) ∙ c .before .before .before .before .before .before .before .low .given .1,
       ← c .before .before .before .before .before .register .ensures,
       ← c .before .before .before .before .index .ensures,
@@ -89,12 +89,12 @@ enum-told-4 : tie.Need-enum-told-4
 enum-told-4 c = search needs
 
 returns-4 : tie.Need-returns-4
-unfolding absoluteOperandOf withByte withAddress
+unfolding absoluteOperandOf ifFetched ifLocated
 returns-4 c =
     rw (
-      ← c .before .before .before .before .before .before .before .before .before .before .before .before .before .before .before .before .before .before .before .after .ensures,
+      ← c .before .before .before .before .before .before .before .before .before .before .before .before .before .before .before .before .before .before .before .address-after .ensures,
       sym (c .before .before .before .before .before .before .before .before .before .before .before .before .before .before .before .before .before .before .fetch .ensures) ∙ c .before .before .before .before .before .before .before .before .before .before .before .before .before .before .before .before .high .given .1,
-      ← c .before .before .before .before .before .before .before .before .before .before .before .before .before .before .after2 .ensures,
+      ← c .before .before .before .before .before .before .before .before .before .before .before .before .before .before .address-after2 .ensures,
       sym (c .before .before .before .before .before .before .before .before .before .before .before .before .before .fetch2 .ensures) ∙ c .before .before .before .before .before .before .before .before .before .before .before .low .given .1,
       ← c .before .before .before .before .before .before .before .before .before .register .ensures,
       ← c .before .before .before .before .before .before .before .before .index .ensures,
@@ -110,12 +110,12 @@ advanced-requires : tie.Need-advanced-requires
 advanced-requires c κs = search needs
 
 returns-5 : tie.Need-returns-5
-unfolding absoluteOperandOf withByte withAddress
+unfolding absoluteOperandOf ifFetched ifLocated
 returns-5 c =
     rw (
-      ← c .before .before .before .before .before .before .before .before .before .before .before .before .before .before .before .before .before .before .before .before .before .before .after .ensures,
+      ← c .before .before .before .before .before .before .before .before .before .before .before .before .before .before .before .before .before .before .before .before .before .before .address-after .ensures,
       sym (c .before .before .before .before .before .before .before .before .before .before .before .before .before .before .before .before .before .before .before .before .before .fetch .ensures) ∙ c .before .before .before .before .before .before .before .before .before .before .before .before .before .before .before .before .before .before .before .high .given .1,
-      ← c .before .before .before .before .before .before .before .before .before .before .before .before .before .before .before .before .before .after2 .ensures,
+      ← c .before .before .before .before .before .before .before .before .before .before .before .before .before .before .before .before .before .address-after2 .ensures,
       sym (c .before .before .before .before .before .before .before .before .before .before .before .before .before .before .before .before .fetch2 .ensures) ∙ c .before .before .before .before .before .before .before .before .before .before .before .before .before .before .low .given .1,
       ← c .before .before .before .before .before .before .before .before .before .before .before .before .register .ensures,
       ← c .before .before .before .before .before .before .before .before .before .before .before .index .ensures,
@@ -130,12 +130,12 @@ pub absolute-operand-spec : {M : Type 1} → statement M
 absolute-operand-spec =
     tie.close
     (tie.spec
-    after-requires
+    address-after-requires
     fetch-requires
     enum-known-high
     enum-told
     returns
-    after-requires-2
+    address-after-requires-2
     fetch-requires-2
     enum-known-low
     enum-told-2

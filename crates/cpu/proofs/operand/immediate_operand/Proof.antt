@@ -1,4 +1,4 @@
-use Rattle.cpu.specs.Address.{withByte}
+use Rattle.cpu.specs.Address.{ifFetched}
 use Rattle.common.specs.Choice.{if_then_else_}
 use Rattle.cpu.specs.Operand.{dataRegisterOf, immediateOperandOf}
 use mathlib.Core.Path.{_∙_, sym}
@@ -6,8 +6,8 @@ use borrow.Author.Needs.{needs}
 use Rattle.cpu.proofs.operand.immediate_operand.Statement.{statement}
 use Rattle.cpu.proofs.operand.immediate_operand.Tie as tie
 
-after-requires : tie.Need-after-requires
-after-requires c κs = search needs
+address-after-requires : tie.Need-address-after-requires
+address-after-requires c κs = search needs
 
 fetch-requires : tie.Need-fetch-requires
 fetch-requires c κs = search needs
@@ -19,10 +19,10 @@ enum-told : tie.Need-enum-told
 enum-told c = search needs
 
 returns : tie.Need-returns
-unfolding immediateOperandOf dataRegisterOf withByte if_then_else_
+unfolding immediateOperandOf dataRegisterOf ifFetched if_then_else_
 returns c =
     rw (
-      ← c .before .before .before .after .ensures,
+      ← c .before .before .before .address-after .ensures,
       sym (c .before .before .fetch .ensures) ∙ c .enum-told .given .1,
     )
 
@@ -30,10 +30,10 @@ advanced-requires : tie.Need-advanced-requires
 advanced-requires c κs = search needs
 
 returns-2 : tie.Need-returns-2
-unfolding immediateOperandOf dataRegisterOf withByte if_then_else_
+unfolding immediateOperandOf dataRegisterOf ifFetched if_then_else_
 returns-2 c =
     rw (
-      ← c .before .before .before .before .before .after .ensures,
+      ← c .before .before .before .before .before .address-after .ensures,
       sym (c .before .before .before .before .fetch .ensures) ∙ c .before .before .b .given .1,
       ← c .advanced .ensures,
     )
@@ -42,7 +42,7 @@ pub immediate-operand-spec : {M : Type 1} → statement M
 immediate-operand-spec =
     tie.close
     (tie.spec
-    after-requires
+    address-after-requires
     fetch-requires
     enum-known-b
     enum-told

@@ -1,4 +1,4 @@
-use Rattle.cpu.specs.Address.{withAddress}
+use Rattle.cpu.specs.Address.{ifLocated}
 use Rattle.common.specs.Choice.{if_then_else_}
 use Rattle.cpu.specs.Operand.{indexedAddressOf}
 use borrow.Author.Tests.{eq-eqb, ne-eqb}
@@ -7,15 +7,15 @@ use borrow.Author.Needs.{needs}
 use Rattle.cpu.proofs.operand.indexed_address.Statement.{statement}
 use Rattle.cpu.proofs.operand.indexed_address.Tie as tie
 
-in-page-requires : tie.Need-in-page-requires
-in-page-requires c κs = search needs
+add-in-page-requires : tie.Need-add-in-page-requires
+add-in-page-requires c κs = search needs
 
 returns : tie.Need-returns
-unfolding indexedAddressOf withAddress if_then_else_
+unfolding indexedAddressOf ifLocated if_then_else_
 returns c =
     rw (
       eq-eqb _ _ (c .before .if1 .taken),
-      ← c .in-page .ensures,
+      ← c .add-in-page .ensures,
     )
 
 pointer-requires : tie.Need-pointer-requires
@@ -28,34 +28,34 @@ enum-told : tie.Need-enum-told
 enum-told c = search needs
 
 returns-2 : tie.Need-returns-2
-unfolding indexedAddressOf withAddress if_then_else_
+unfolding indexedAddressOf ifLocated if_then_else_
 returns-2 c =
     rw (
       ne-eqb _ _ (c .before .before .before .if1 .left),
       sym (c .before .before .pointer .ensures) ∙ c .enum-told .given .1,
     )
 
-onward-requires : tie.Need-onward-requires
-onward-requires c κs = search needs
+add-wrapping-requires : tie.Need-add-wrapping-requires
+add-wrapping-requires c κs = search needs
 
 returns-3 : tie.Need-returns-3
-unfolding indexedAddressOf withAddress if_then_else_
+unfolding indexedAddressOf ifLocated if_then_else_
 returns-3 c =
     rw (
       ne-eqb _ _ (c .before .before .before .before .before .if1 .left),
       sym (c .before .before .before .before .pointer .ensures) ∙ c .before .before .p .given .1,
-      ← c .onward .ensures,
+      ← c .add-wrapping .ensures,
     )
 
 pub indexed-address-spec : {M : Type 1} → statement M
 indexed-address-spec =
     tie.close
     (tie.spec
-    in-page-requires
+    add-in-page-requires
     returns
     pointer-requires
     enum-known-p
     enum-told
     returns-2
-    onward-requires
+    add-wrapping-requires
     returns-3)

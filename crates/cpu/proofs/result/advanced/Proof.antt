@@ -3,8 +3,8 @@ use borrow.Author.Needs.{needs}
 use Rattle.cpu.proofs.result.advanced.Statement.{statement}
 use Rattle.cpu.proofs.result.advanced.Tie as tie
 
-after-requires : tie.Need-after-requires
-after-requires c κs = search needs
+address-after-requires : tie.Need-address-after-requires
+address-after-requires c κs = search needs
 
 with-counter-requires : tie.Need-with-counter-requires
 with-counter-requires c κs = search needs
@@ -13,9 +13,9 @@ returns : tie.Need-returns
 unfolding advancedOf
 returns c =
     rw (
-      ← c .before .after .ensures,
+      ← c .before .address-after .ensures,
       ← c .with-counter .ensures,
     )
 
 pub advanced-spec : {M : Type 1} → statement M
-advanced-spec = tie.close (tie.spec after-requires with-counter-requires returns)
+advanced-spec = tie.close (tie.spec address-after-requires with-counter-requires returns)

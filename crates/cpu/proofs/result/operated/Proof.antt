@@ -12,8 +12,8 @@ psl-requires c κs = search needs
 operate-requires : tie.Need-operate-requires
 operate-requires c κs = search needs
 
-applied-requires : tie.Need-applied-requires
-applied-requires c κs = search needs
+with-alu-result-requires : tie.Need-with-alu-result-requires
+with-alu-result-requires c κs = search needs
 
 going-requires : tie.Need-going-requires
 going-requires c κs = search needs
@@ -25,7 +25,7 @@ returns c =
       ← c .before .before .before .before .register .ensures,
       ← c .before .before .before .psl .ensures,
       ← c .before .before .operate .ensures .0,
-      ← c .before .applied .ensures,
+      ← c .before .with-alu-result .ensures,
       ← c .going .ensures,
     )
 
@@ -36,6 +36,6 @@ operated-spec =
     register-requires
     psl-requires
     operate-requires
-    applied-requires
+    with-alu-result-requires
     going-requires
     returns)

@@ -1,5 +1,5 @@
 use mathlib.Core.Path.{ap}
-use Rattle.host.specs.BenchRun.{ranAs, hostListing}
+use Rattle.host.specs.BenchRun.{benchRunOf, hostListing}
 use borrow.Author.Needs.{needs}
 use Rattle.host.proofs.bench_run.pf_listing.Statement.{statement}
 use Rattle.host.proofs.bench_run.pf_listing.Tie as tie
@@ -21,7 +21,7 @@ same-length-2 c = search needs
 
 returns : tie.Need-returns
 unfolding hostListing
-returns c = rw (c .answer .ensures) (ap ranAs (c .before .before .before .before .before .before .listing .ensures .0))
+returns c = rw (c .answer .ensures) (ap benchRunOf (c .before .before .before .before .before .before .listing .ensures .0))
 
 pub pf-listing-spec : {M : Type 1} → statement M
 pf-listing-spec = tie.close (tie.spec listing-requires cast-answer answer-requires same-length same-length-2 returns)

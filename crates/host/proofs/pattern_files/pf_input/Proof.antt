@@ -4,7 +4,7 @@ use lib.ListN.{length}
 use mathlib.Core.Path.{sym, ap, _∙_}
 use native.Mathlib.Omega.{arith}
 use Rattle.host.specs.PatternFiles.{stretchOf}
-use Rattle.host.specs.PatternFileLaws.{input-accepted, input-few, input-place-few, input-refused}
+use Rattle.host.specs.PatternFileLaws.{input-accepted, input-few, input-offset-few, input-refused}
 use borrow.Author.Needs.{needs}
 use Rattle.host.proofs.pattern_files.pf_input.Statement.{statement}
 use Rattle.host.proofs.pattern_files.pf_input.Tie as tie
@@ -24,11 +24,11 @@ returns c = sym (input-refused (now (c .before .before .before .before .args .fi
 input-body-requires : tie.Need-input-body-requires
 input-body-requires c κs = search needs
 
-input-place-requires : tie.Need-input-place-requires
-input-place-requires c κs = search needs
+input-offset-requires : tie.Need-input-offset-requires
+input-offset-requires c κs = search needs
 
 cast-stretch : tie.Need-cast-stretch
-cast-stretch c = omega (arith, c .input-place .ensures, input-place-few (now (c .before .before .before .before .before .before .args .file)) _ (sym (c .before .before .before .before .read .ensures) ∙ c .before .before .enum-told .given .1))
+cast-stretch c = omega (arith, c .input-offset .ensures, input-offset-few (now (c .before .before .before .before .before .before .args .file)) _ (sym (c .before .before .before .before .read .ensures) ∙ c .before .before .enum-told .given .1))
 
 cast-stretch-2 : tie.Need-cast-stretch-2
 cast-stretch-2 c = omega (arith, ap length (c .before .input-body .ensures), input-few (now (c .before .before .before .before .before .before .args .file)) _ (sym (c .before .before .before .before .read .ensures) ∙ c .before .before .enum-told .given .1))
@@ -38,7 +38,7 @@ stretch-requires c κs = search needs
 
 returns-2 : tie.Need-returns-2
 returns-2 c = c .stretch .ensures
-    ∙ (λ j. stretchOf (c .before .input-place .ensures j) (length (c .before .before .input-body .ensures j)))
+    ∙ (λ j. stretchOf (c .before .input-offset .ensures j) (length (c .before .before .input-body .ensures j)))
     ∙ sym (input-accepted (now (c .before .before .before .before .before .before .before .args .file)) _ (sym (c .before .before .before .before .before .read .ensures) ∙ c .before .before .before .enum-told .given .1))
 
 pub pf-input-spec : {M : Type 1} → statement M
@@ -50,7 +50,7 @@ pf-input-spec =
     enum-told-2
     returns
     input-body-requires
-    input-place-requires
+    input-offset-requires
     cast-stretch
     cast-stretch-2
     stretch-requires

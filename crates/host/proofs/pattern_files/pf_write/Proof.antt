@@ -1,11 +1,11 @@
--- `host::pattern_files::pf_write`: by the writer's answer (PatternFiling.antt).
+-- `host::pattern_files::pf_write`: by the writer's answer (HostFileLaws.antt).
 use native.Mathlib.Omega.{arith}
 use denote.Ref.{now}
 use lib.ListN.{length}
 use mathlib.Core.Path.{sym, ap, _∙_}
 use Rattle.host.specs.PatternFiles.{writtenAnswer}
-use Rattle.host.specs.PatternFileLaws.{written-few}
-use Rattle.host.proofs.PatternFiling.{write-other, write-made}
+use Rattle.host.specs.PatternFileLaws.{file-few}
+use Rattle.host.proofs.HostFileLaws.{write-other, write-made}
 use borrow.Author.Needs.{needs}
 use Rattle.host.proofs.pattern_files.pf_write.Statement.{statement}
 use Rattle.host.proofs.pattern_files.pf_write.Tie as tie
@@ -14,10 +14,10 @@ answer-requires : tie.Need-answer-requires
 answer-requires c κs = search needs
 
 returns : tie.Need-returns
-returns c = write-other (now (c .before .before .before .before .before .before .args .values)) (now (c .before .before .before .before .before .before .args .image)) (now (c .before .before .before .before .before .before .args .input)) (now (c .before .before .before .before .before .before .args .buffer)) _ (c .before .if1 .taken) (c .answer .ensures)
+returns c = write-other (now (c .before .before .before .before .before .before .args .parameters)) (now (c .before .before .before .before .before .before .args .image)) (now (c .before .before .before .before .before .before .args .input)) (now (c .before .before .before .before .before .before .args .buffer)) _ (c .before .if1 .taken) (c .answer .ensures)
 
-values-at-requires : tie.Need-values-at-requires
-values-at-requires c κs = search needs
+decode-parameters-requires : tie.Need-decode-parameters-requires
+decode-parameters-requires c κs = search needs
 
 write-requires : tie.Need-write-requires
 write-requires c κs = search needs
@@ -26,7 +26,7 @@ enum-known-written : tie.Need-enum-known-written
 enum-known-written c = search needs
 
 cast-answer : tie.Need-cast-answer
-cast-answer c = omega (arith, written-few (c .before .before .before .before .before .before .before .values-at .result) (now (c .before .before .before .before .before .before .before .before .before .before .before .before .before .args .image)) (now (c .before .before .before .before .before .before .before .before .before .before .before .before .before .args .input)) (length (now (c .before .before .before .before .before .before .before .before .before .before .before .before .before .args .buffer))) (c .before .written .given .0 .0) (sym (c .before .before .before .before .before .write .ensures .0) ∙ c .before .written .given .1))
+cast-answer c = omega (arith, file-few (c .before .before .before .before .before .before .before .decode-parameters .result) (now (c .before .before .before .before .before .before .before .before .before .before .before .before .before .args .image)) (now (c .before .before .before .before .before .before .before .before .before .before .before .before .before .args .input)) (length (now (c .before .before .before .before .before .before .before .before .before .before .before .before .before .args .buffer))) (c .before .written .given .0 .0) (sym (c .before .before .before .before .before .write .ensures .0) ∙ c .before .written .given .1))
 
 answer-requires-2 : tie.Need-answer-requires-2
 answer-requires-2 c κs = search needs
@@ -41,13 +41,13 @@ same-length : tie.Need-same-length
 same-length c = search needs
 
 returns-2 : tie.Need-returns-2
-returns-2 c = write-made (now (c .before .before .before .before .before .before .before .before .before .before .before .before .before .before .args .values)) (now (c .before .before .before .before .before .before .before .before .before .before .before .before .before .before .args .image)) (now (c .before .before .before .before .before .before .before .before .before .before .before .before .before .before .args .input)) (now (c .before .before .before .before .before .before .before .before .before .before .before .before .before .before .args .buffer)) (c .before .before .before .before .before .before .before .before .values-at .result) (c .before .before .before .before .before .before .write .result) _ _ (c .before .before .before .before .before .before .before .before .before .if1 .left) (c .before .before .before .before .before .before .before .before .values-at .ensures) (c .before .before .before .before .before .before .write .ensures .0) (c .before .before .before .before .before .before .write .ensures .1) (c .answer2 .ensures ∙ sym (ap writtenAnswer (c .before .before .written .given .1)))
+returns-2 c = write-made (now (c .before .before .before .before .before .before .before .before .before .before .before .before .before .before .args .parameters)) (now (c .before .before .before .before .before .before .before .before .before .before .before .before .before .before .args .image)) (now (c .before .before .before .before .before .before .before .before .before .before .before .before .before .before .args .input)) (now (c .before .before .before .before .before .before .before .before .before .before .before .before .before .before .args .buffer)) (c .before .before .before .before .before .before .before .before .decode-parameters .result) (c .before .before .before .before .before .before .write .result) _ _ (c .before .before .before .before .before .before .before .before .before .if1 .left) (c .before .before .before .before .before .before .before .before .decode-parameters .ensures) (c .before .before .before .before .before .before .write .ensures .0) (c .before .before .before .before .before .before .write .ensures .1) (c .answer2 .ensures ∙ sym (ap writtenAnswer (c .before .before .written .given .1)))
 
 same-length-2 : tie.Need-same-length-2
 same-length-2 c = search needs
 
 returns-3 : tie.Need-returns-3
-returns-3 c = write-made (now (c .before .before .before .before .before .before .before .before .before .before .before .before .before .before .args .values)) (now (c .before .before .before .before .before .before .before .before .before .before .before .before .before .before .args .image)) (now (c .before .before .before .before .before .before .before .before .before .before .before .before .before .before .args .input)) (now (c .before .before .before .before .before .before .before .before .before .before .before .before .before .before .args .buffer)) (c .before .before .before .before .before .before .before .before .values-at .result) (c .before .before .before .before .before .before .write .result) _ _ (c .before .before .before .before .before .before .before .before .before .if1 .left) (c .before .before .before .before .before .before .before .before .values-at .ensures) (c .before .before .before .before .before .before .write .ensures .0) (c .before .before .before .before .before .before .write .ensures .1) (c .answer3 .ensures ∙ sym (ap writtenAnswer (c .before .before .written2 .given .1)))
+returns-3 c = write-made (now (c .before .before .before .before .before .before .before .before .before .before .before .before .before .before .args .parameters)) (now (c .before .before .before .before .before .before .before .before .before .before .before .before .before .before .args .image)) (now (c .before .before .before .before .before .before .before .before .before .before .before .before .before .before .args .input)) (now (c .before .before .before .before .before .before .before .before .before .before .before .before .before .before .args .buffer)) (c .before .before .before .before .before .before .before .before .decode-parameters .result) (c .before .before .before .before .before .before .write .result) _ _ (c .before .before .before .before .before .before .before .before .before .if1 .left) (c .before .before .before .before .before .before .before .before .decode-parameters .ensures) (c .before .before .before .before .before .before .write .ensures .0) (c .before .before .before .before .before .before .write .ensures .1) (c .answer3 .ensures ∙ sym (ap writtenAnswer (c .before .before .written2 .given .1)))
 
 pub pf-write-spec : {M : Type 1} → statement M
 pf-write-spec =
@@ -55,7 +55,7 @@ pf-write-spec =
     (tie.spec
     answer-requires
     returns
-    values-at-requires
+    decode-parameters-requires
     write-requires
     enum-known-written
     cast-answer

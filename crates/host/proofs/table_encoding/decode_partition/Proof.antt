@@ -4,32 +4,32 @@ use borrow.Author.Needs.{needs}
 use Rattle.host.proofs.table_encoding.decode_partition.Statement.{statement}
 use Rattle.host.proofs.table_encoding.decode_partition.Tie as tie
 
-quad-requires : tie.Need-quad-requires
-quad-requires c κs = search needs
+u32-at-requires : tie.Need-u32-at-requires
+u32-at-requires c κs = search needs
 
-pair-requires : tie.Need-pair-requires
-pair-requires c κs = search needs
+u16-at-requires : tie.Need-u16-at-requires
+u16-at-requires c κs = search needs
 
-pair-requires-2 : tie.Need-pair-requires-2
-pair-requires-2 c κs = search needs
+u16-at-requires-2 : tie.Need-u16-at-requires-2
+u16-at-requires-2 c κs = search needs
 
-pair-requires-3 : tie.Need-pair-requires-3
-pair-requires-3 c κs = search needs
+u16-at-requires-3 : tie.Need-u16-at-requires-3
+u16-at-requires-3 c κs = search needs
 
 byte-requires : tie.Need-byte-requires
 byte-requires c κs = search needs
 
 returns : tie.Need-returns
 unfolding partitionAt
-returns c = rw (c .before .before .before .before .quad .ensures, c .before .before .before .pair .ensures, c .before .before .pair2 .ensures, c .before .pair3 .ensures, c .byte .ensures)
+returns c = rw (c .before .before .before .before .u32-at .ensures, c .before .before .before .u16-at .ensures, c .before .before .u16-at2 .ensures, c .before .u16-at3 .ensures, c .byte .ensures)
 
 pub decode-partition-spec : {M : Type 1} → statement M
 decode-partition-spec =
     tie.close
     (tie.spec
-    quad-requires
-    pair-requires
-    pair-requires-2
-    pair-requires-3
+    u32-at-requires
+    u16-at-requires
+    u16-at-requires-2
+    u16-at-requires-3
     byte-requires
     returns)

@@ -1,27 +1,27 @@
--- `host::table_encoding::decode_table`: each turn reads one slot.
+-- `host::table_encoding::decode_table`: each iteration reads one slot.
 use Prim.Native.Nat.{_+_, _*_, _-_}
 use lib.ListN.{length-replicate}
-use Rattle.slices.specs.PieceLaws.{ListedTo, listed-none, listed-next, listed-all}
+use Rattle.slices.specs.PieceLaws.{TabulatedTo, tabulated-none, tabulated-next, tabulated-all}
 use Rattle.slices.specs.Slices.{partOf}
-use Rattle.host.specs.TableEncoding.{slotLength, slotsPlace, slotFrom, tableAt}
+use Rattle.host.specs.TableEncoding.{slotLength, slotsOffset, slotFrom, tableAt}
 use borrow.Author.Needs.{needs}
 use Rattle.host.proofs.table_encoding.decode_table.Statement.{statement}
 use Rattle.host.proofs.table_encoding.decode_table.Tie as tie
 
 abbrev Inv-loop : tie.InvT-loop
-Inv-loop bytes size slots₀ k₀ slots k = ListedTo 8 (λ i. slotFrom (partOf bytes (slotsPlace + slotLength * i) slotLength)) k slots
+Inv-loop bytes size slots₀ k₀ slots k = TabulatedTo 8 (λ i. slotFrom (partOf bytes (slotsOffset + slotLength * i) slotLength)) k slots
 
 abbrev μ-loop : tie.MeasureT-loop
 μ-loop bytes size slots₀ k₀ slots k = 8 - k
 
-quad-requires : tie.Need-quad-requires Inv-loop μ-loop
-quad-requires c κs = search needs
+u32-at-requires : tie.Need-u32-at-requires Inv-loop μ-loop
+u32-at-requires c κs = search needs
 
 decode-slot-requires : tie.Need-decode-slot-requires Inv-loop μ-loop
 decode-slot-requires c κs = search needs
 
 loop-holds : tie.Need-loop-holds Inv-loop μ-loop
-loop-holds c = listed-none _ _ _ (length-replicate 8 (c .decode-slot .result))
+loop-holds c = tabulated-none _ _ _ (length-replicate 8 (c .decode-slot .result))
 
 mul-decode-slot : tie.Need-mul-decode-slot Inv-loop μ-loop
 mul-decode-slot c = search needs
@@ -45,11 +45,11 @@ loop-less : tie.Need-loop-less Inv-loop μ-loop
 loop-less c = search needs
 
 loop-again : tie.Need-loop-again Inv-loop μ-loop
-loop-again c = listed-next _ _ (c .before .before .loop .k) _ (c .before .before .loop .inv) _ (c .before .loop-test .taken) (c .decode-slot2 .ensures)
+loop-again c = tabulated-next _ _ (c .before .before .loop .k) _ (c .before .before .loop .inv) _ (c .before .loop-test .taken) (c .decode-slot2 .ensures)
 
 returns : tie.Need-returns Inv-loop μ-loop
 unfolding tableAt
-returns c = rw (c .before .before .before .quad .ensures, listed-all _ _ (c .before .loop .k) _ (c .before .loop .inv) (c .loop-test .left))
+returns c = rw (c .before .before .before .u32-at .ensures, tabulated-all _ _ (c .before .loop .k) _ (c .before .loop .inv) (c .loop-test .left))
 
 pub decode-table-spec : {M : Type 1} → statement M
 decode-table-spec =
@@ -57,7 +57,7 @@ decode-table-spec =
     (tie.spec
     Inv-loop
     μ-loop
-    quad-requires
+    u32-at-requires
     decode-slot-requires
     loop-holds
     mul-decode-slot

@@ -5,33 +5,33 @@ use lib.ListN.{length}
 use mathlib.Core.List.{[], _∷_}
 use mathlib.Core.Path.{refl}
 use native.Mathlib.Omega.{arith}
-use Rattle.slices.specs.Numbers.{pairOf, quadOf}
+use Rattle.slices.specs.Numbers.{u16Bytes, u32Bytes}
 use Rattle.slices.specs.PieceLaws.{copied-each}
 use Rattle.host.specs.TableEncoding.{partitionLength, partitionBytes}
 use borrow.Author.Needs.{needs}
 use Rattle.host.proofs.table_encoding.put_partition.Statement.{statement}
 use Rattle.host.proofs.table_encoding.put_partition.Tie as tie
 
-put-quad-requires : tie.Need-put-quad-requires
-put-quad-requires c κs = search needs
+put-u32-requires : tie.Need-put-u32-requires
+put-u32-requires c κs = search needs
 
-add-put-pair : tie.Need-add-put-pair
-add-put-pair c = search needs
+add-put-u16 : tie.Need-add-put-u16
+add-put-u16 c = search needs
 
-put-pair-requires : tie.Need-put-pair-requires
-put-pair-requires c κs = search needs
+put-u16-requires : tie.Need-put-u16-requires
+put-u16-requires c κs = search needs
 
-add-put-pair-2 : tie.Need-add-put-pair-2
-add-put-pair-2 c = search needs
+add-put-u16-2 : tie.Need-add-put-u16-2
+add-put-u16-2 c = search needs
 
-put-pair-requires-2 : tie.Need-put-pair-requires-2
-put-pair-requires-2 c κs = search needs
+put-u16-requires-2 : tie.Need-put-u16-requires-2
+put-u16-requires-2 c κs = search needs
 
-add-put-pair-3 : tie.Need-add-put-pair-3
-add-put-pair-3 c = search needs
+add-put-u16-3 : tie.Need-add-put-u16-3
+add-put-u16-3 c = search needs
 
-put-pair-requires-3 : tie.Need-put-pair-requires-3
-put-pair-requires-3 c κs = search needs
+put-u16-requires-3 : tie.Need-put-u16-requires-3
+put-u16-requires-3 c κs = search needs
 
 add-put-byte : tie.Need-add-put-byte
 add-put-byte c = search needs
@@ -48,12 +48,12 @@ returns c = let a = c .before .before .before .before .before .before .before .b
     let p = a .partition in
     let at = a .at in
     let room : at + partitionLength ≤ length (now (a .bytes)) = c .before .before .before .before .before .before .before .before .before .before .before .before .before .before .before .before .before .before .before .before .before .before .before .pre in
-    rw (c .before .before .put-byte .ensures, c .before .before .before .before .before .before .put-pair3 .ensures, c .before .before .before .before .before .before .before .before .before .before .put-pair2 .ensures, c .before .before .before .before .before .before .before .before .before .before .before .before .before .before .put-pair .ensures, c .before .before .before .before .before .before .before .before .before .before .before .before .before .before .before .before .before .before .put-quad .ensures)
+    rw (c .before .before .put-byte .ensures, c .before .before .before .before .before .before .put-u163 .ensures, c .before .before .before .before .before .before .before .before .before .before .put-u162 .ensures, c .before .before .before .before .before .before .before .before .before .before .before .before .before .before .put-u16 .ensures, c .before .before .before .before .before .before .before .before .before .before .before .before .before .before .before .before .before .before .put-u32 .ensures)
     (copied-each (
-    (at, quadOf (p .base .0))
-    ∷ (at + 4, pairOf (p .layout .window))
-    ∷ (at + 6, pairOf (p .layout .input))
-    ∷ (at + 8, pairOf (p .layout .output))
+    (at, u32Bytes (p .base .0))
+    ∷ (at + 4, u16Bytes (p .layout .window))
+    ∷ (at + 6, u16Bytes (p .layout .input))
+    ∷ (at + 8, u16Bytes (p .layout .output))
     ∷ (at + 10, p .quantum ∷ [])
     ∷ []
     ) (now (a .bytes)) at (refl, (refl, (omega arith, (omega arith, (omega arith, tt))))) room)
@@ -62,13 +62,13 @@ pub put-partition-spec : {M : Type 1} → statement M
 put-partition-spec =
     tie.close
     (tie.spec
-    put-quad-requires
-    add-put-pair
-    put-pair-requires
-    add-put-pair-2
-    put-pair-requires-2
-    add-put-pair-3
-    put-pair-requires-3
+    put-u32-requires
+    add-put-u16
+    put-u16-requires
+    add-put-u16-2
+    put-u16-requires-2
+    add-put-u16-3
+    put-u16-requires-3
     add-put-byte
     put-byte-requires
     same-length

@@ -4,11 +4,11 @@ use mathlib.Core.Path.{_≡_, ap, sym, _∙_}
 use Prim.Native.Nat.{ℕ, _+_, _≤_}
 use native.Mathlib.Omega.{arith}
 use lib.ListN.{length, length-append}
-use Rattle.encoding.specs.Encoding.{stateLength, stateBytes}
+use Rattle.encoding.specs.StateEncoding.{stateLength, stateBytes}
 use Rattle.slices.specs.Slices.{copied}
-use Rattle.slices.specs.Laws.{copied-next}
+use Rattle.slices.specs.SliceLaws.{copied-next}
 use Rattle.host.specs.TableEncoding.{partitionLength, slotLength, partitionBytes, slotBytes}
-use Rattle.host.specs.TableRoundTrip.{partition-length}
+use Rattle.host.specs.TableRoundTripLaws.{partition-length}
 use borrow.Author.Needs.{needs}
 use Rattle.host.proofs.table_encoding.put_slot.Statement.{statement}
 use Rattle.host.proofs.table_encoding.put_slot.Tie as tie

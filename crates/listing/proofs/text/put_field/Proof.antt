@@ -1,5 +1,4 @@
 use Rattle.listing.specs.Text.{hexByte, field}
-use Rattle.listing.specs.Text.{hexByte}
 use borrow.Author.Needs.{needs}
 use Rattle.listing.proofs.text.put_field.Statement.{statement}
 use Rattle.listing.proofs.text.put_field.Tie as tie

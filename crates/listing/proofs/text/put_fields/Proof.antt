@@ -4,7 +4,7 @@ use native.Mathlib.Omega.{arith}
 use lib.ListN.{length, take}
 use Rattle.slices.specs.Slices.{copied}
 use Rattle.listing.specs.Text.{fields}
-use Rattle.listing.proofs.Texts.{none-put, one-more, all-put}
+use Rattle.listing.proofs.PutTextLaws.{none-put, one-more, all-put}
 use Rattle.listing.proofs.text.put_fields.Statement.{statement}
 use Rattle.listing.proofs.text.put_fields.Tie as tie
 

@@ -1,5 +1,5 @@
 use native.Mathlib.Omega.{arith}
-use Rattle.listing.proofs.Texts.{lines-put}
+use Rattle.listing.proofs.PutTextLaws.{lines-put}
 use borrow.Author.Needs.{needs}
 use Rattle.listing.proofs.text.put_lines.Statement.{statement}
 use Rattle.listing.proofs.text.put_lines.Tie as tie

@@ -1,7 +1,7 @@
 use native.Mathlib.Omega.{arith}
 use mathlib.Core.Path.{_≡_}
 use lib.ListN.{length}
-use Rattle.listing.proofs.Texts.{values-put}
+use Rattle.listing.proofs.PutTextLaws.{fields-put}
 use borrow.Author.Needs.{needs}
 use Rattle.listing.proofs.text.put_values.Statement.{statement}
 use Rattle.listing.proofs.text.put_values.Tie as tie
@@ -22,7 +22,7 @@ same-length : tie.Need-same-length
 same-length c = search needs
 
 returns : tie.Need-returns
-returns c = values-put _ _ _ _ _ _ (search needs) (c .before .before .before .before .before .before .before .before .before .before .before .before .pre) (c .before .before .before .before .before .before .before .before .put-fields .ensures) (c .before .before .put-fields2 .ensures)
+returns c = fields-put _ _ _ _ _ _ (search needs) (c .before .before .before .before .before .before .before .before .before .before .before .before .pre) (c .before .before .before .before .before .before .before .before .put-fields .ensures) (c .before .before .put-fields2 .ensures)
 
 pub put-values-spec : {M : Type 1} → statement M
 put-values-spec =

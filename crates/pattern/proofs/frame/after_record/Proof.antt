@@ -4,15 +4,15 @@ use borrow.Author.Needs.{needs}
 use Rattle.pattern.proofs.frame.after_record.Statement.{statement}
 use Rattle.pattern.proofs.frame.after_record.Tie as tie
 
-record-size-requires : tie.Need-record-size-requires
-record-size-requires c κs = search needs
+record-length-requires : tie.Need-record-length-requires
+record-length-requires c κs = search needs
 
 rest-requires : tie.Need-rest-requires
 rest-requires c κs = search needs
 
 returns : tie.Need-returns
 unfolding afterRecord
-returns c = rw (c .rest .ensures, c .before .record-size .ensures .0)
+returns c = rw (c .rest .ensures, c .before .record-length .ensures .0)
 
 pub after-record-spec : {M : Type 1} → statement M
-after-record-spec = tie.close (tie.spec record-size-requires rest-requires returns)
+after-record-spec = tie.close (tie.spec record-length-requires rest-requires returns)

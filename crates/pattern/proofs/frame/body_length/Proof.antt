@@ -4,12 +4,12 @@ use borrow.Author.Needs.{needs}
 use Rattle.pattern.proofs.frame.body_length.Statement.{statement}
 use Rattle.pattern.proofs.frame.body_length.Tie as tie
 
-pair-requires : tie.Need-pair-requires
-pair-requires c κs = search needs
+u16-at-requires : tie.Need-u16-at-requires
+u16-at-requires c κs = search needs
 
 returns : tie.Need-returns
 unfolding bodyLength
-returns c = c .pair .ensures
+returns c = c .u16-at .ensures
 
 pub body-length-spec : {M : Type 1} → statement M
-body-length-spec = tie.close (tie.spec pair-requires returns)
+body-length-spec = tie.close (tie.spec u16-at-requires returns)

@@ -11,12 +11,12 @@ byte-requires c κs = search needs
 byte-requires-2 : tie.Need-byte-requires-2
 byte-requires-2 c κs = search needs
 
-record-size-requires : tie.Need-record-size-requires
-record-size-requires c κs = search needs
+record-length-requires : tie.Need-record-length-requires
+record-length-requires c κs = search needs
 
 returns : tie.Need-returns
 unfolding framed allAfter
-returns c = rw (c .before .before .byte .ensures, c .before .byte2 .ensures, c .record-size .ensures .0)
+returns c = rw (c .before .before .byte .ensures, c .before .byte2 .ensures, c .record-length .ensures .0)
 
 pub is-framed-spec : {M : Type 1} → statement M
-is-framed-spec = tie.close (tie.spec byte-requires byte-requires-2 record-size-requires returns)
+is-framed-spec = tie.close (tie.spec byte-requires byte-requires-2 record-length-requires returns)

@@ -5,10 +5,10 @@ use lib.ListN.{length, length-append}
 use mathlib.Core.List.{List, [], _∷_, _++_, append-nil}
 use mathlib.Core.Path.{refl, ap, _∙_}
 use native.Mathlib.Omega.{arith}
-use Rattle.slices.specs.Numbers.{pairOf}
+use Rattle.slices.specs.Numbers.{u16Bytes}
 use Rattle.slices.specs.PieceLaws.{copied-each}
 use Rattle.slices.specs.Slices.{copied}
-use Rattle.pattern.specs.Frame.{frameSize, recordOf}
+use Rattle.pattern.specs.Frame.{frameLength, recordOf}
 use borrow.Author.Needs.{needs}
 use Rattle.pattern.proofs.frame.put_record.Statement.{statement}
 use Rattle.pattern.proofs.frame.put_record.Tie as tie
@@ -19,14 +19,14 @@ slice-aggregate-copy c = search needs
 copy-requires : tie.Need-copy-requires
 copy-requires c κs = search needs
 
-add-put-pair : tie.Need-add-put-pair
-add-put-pair c = search needs
+add-put-u16 : tie.Need-add-put-u16
+add-put-u16 c = search needs
 
-cast-put-pair : tie.Need-cast-put-pair
-cast-put-pair c = search needs
+cast-put-u16 : tie.Need-cast-put-u16
+cast-put-u16 c = search needs
 
-put-pair-requires : tie.Need-put-pair-requires
-put-pair-requires c κs = search needs
+put-u16-requires : tie.Need-put-u16-requires
+put-u16-requires c κs = search needs
 
 add-copy : tie.Need-add-copy
 add-copy c = search needs
@@ -47,11 +47,11 @@ returns : tie.Need-returns
 unfolding recordOf
 returns c = let a = c .before .before .before .before .before .before .before .before .before .before .before .before .before .before .before .args in
     let body = now (a .body) in
-    let room : a .at + frameSize + length body ≤ length (now (a .buffer)) = c .before .before .before .before .before .before .before .before .before .before .before .before .before .before .before .pre .1 in (
+    let room : a .at + frameLength + length body ≤ length (now (a .buffer)) = c .before .before .before .before .before .before .before .before .before .before .before .before .before .before .before .pre .1 in (
       omega arith,
-      rw (c .before .before .copy2 .ensures, c .before .before .before .before .before .before .put-pair .ensures, c .before .before .before .before .before .before .before .before .before .before .copy .ensures)
-          (copied-each ((a .at, 0x50 ∷ a .mark ∷ []) ∷ (a .at + 2, pairOf (length body)) ∷ (a .at + frameSize, body) ∷ []) (now (a .buffer)) (a .at) (refl, (refl, (omega arith, tt))) (simp length-append (omega arith))
-          ∙ ap (λ (l : List ℕ). copied (now (a .buffer)) (a .at) ((0x50 ∷ a .mark ∷ pairOf (length body)) ++ l)) (append-nil body)),
+      rw (c .before .before .copy2 .ensures, c .before .before .before .before .before .before .put-u16 .ensures, c .before .before .before .before .before .before .before .before .before .before .copy .ensures)
+          (copied-each ((a .at, 0x50 ∷ a .mark ∷ []) ∷ (a .at + 2, u16Bytes (length body)) ∷ (a .at + frameLength, body) ∷ []) (now (a .buffer)) (a .at) (refl, (refl, (omega arith, tt))) (simp length-append (omega arith))
+          ∙ ap (λ (l : List ℕ). copied (now (a .buffer)) (a .at) ((0x50 ∷ a .mark ∷ u16Bytes (length body)) ++ l)) (append-nil body)),
     )
 
 pub put-record-spec : {M : Type 1} → statement M
@@ -60,9 +60,9 @@ put-record-spec =
     (tie.spec
     slice-aggregate-copy
     copy-requires
-    add-put-pair
-    cast-put-pair
-    put-pair-requires
+    add-put-u16
+    cast-put-u16
+    put-u16-requires
     add-copy
     copy-requires-2
     add-result

@@ -1,12 +1,12 @@
--- `pattern::writer::put_records`: each record stands where the one before it ends (Writing.antt).
+-- `pattern::writer::put_records`: each record stands where the one before it ends (WritingLaws.antt).
 use denote.Ref.{now}
-use Rattle.pattern.proofs.Writing.{five-records}
+use Rattle.pattern.proofs.WritingLaws.{five-records}
 use borrow.Author.Needs.{needs}
 use Rattle.pattern.proofs.writer.put_records.Statement.{statement}
 use Rattle.pattern.proofs.writer.put_records.Tie as tie
 
-values-bytes-requires : tie.Need-values-bytes-requires
-values-bytes-requires c κs = search needs
+encode-parameters-requires : tie.Need-encode-parameters-requires
+encode-parameters-requires c κs = search needs
 
 slice-aggregate-put-record : tie.Need-slice-aggregate-put-record
 slice-aggregate-put-record c = search needs
@@ -37,15 +37,15 @@ same-length c = search needs
 
 returns : tie.Need-returns
 returns c = let a = c .before .before .before .before .before .before .before .before .before .before .before .before .before .before .before .before .before .before .before .before .before .before .before .before .before .before .before .args in
-    rw (c .before .before .put-record5 .ensures .1, c .before .before .before .before .before .before .before .put-record4 .ensures .1, c .before .before .before .before .before .before .before .before .before .before .before .put-record3 .ensures .1, c .before .before .before .before .before .before .before .before .before .before .before .before .before .before .before .put-record2 .ensures .1, c .before .before .before .before .before .before .before .before .before .before .before .before .before .before .before .before .before .before .before .before .put-record .ensures .1, c .before .before .before .before .before .before .before .before .before .before .before .before .before .before .before .before .before .before .before .before .before .before .before .values-bytes .ensures)
-    (five-records (a .v) (now (a .code)) (now (a .input)) (now (a .buffer)) _ _ _ _ (c .before .before .before .before .before .before .before .before .before .before .before .before .before .before .before .before .before .before .before .before .before .before .before .before .before .before .before .pre .1 .1) (c .before .before .before .before .before .before .before .before .before .before .before .before .before .before .before .before .before .before .before .before .put-record .ensures .0) (rw (c .before .before .before .before .before .before .before .before .before .before .before .before .before .before .before .before .before .before .before .before .before .before .before .values-bytes .ensures) at (c .before .before .before .before .before .before .before .before .before .before .before .before .before .before .before .put-record2 .ensures .0))
+    rw (c .before .before .put-record5 .ensures .1, c .before .before .before .before .before .before .before .put-record4 .ensures .1, c .before .before .before .before .before .before .before .before .before .before .before .put-record3 .ensures .1, c .before .before .before .before .before .before .before .before .before .before .before .before .before .before .before .put-record2 .ensures .1, c .before .before .before .before .before .before .before .before .before .before .before .before .before .before .before .before .before .before .before .before .put-record .ensures .1, c .before .before .before .before .before .before .before .before .before .before .before .before .before .before .before .before .before .before .before .before .before .before .before .encode-parameters .ensures)
+    (five-records (a .v) (now (a .code)) (now (a .input)) (now (a .buffer)) _ _ _ _ (c .before .before .before .before .before .before .before .before .before .before .before .before .before .before .before .before .before .before .before .before .before .before .before .before .before .before .before .pre .1 .1) (c .before .before .before .before .before .before .before .before .before .before .before .before .before .before .before .before .before .before .before .before .put-record .ensures .0) (rw (c .before .before .before .before .before .before .before .before .before .before .before .before .before .before .before .before .before .before .before .before .before .before .before .encode-parameters .ensures) at (c .before .before .before .before .before .before .before .before .before .before .before .before .before .before .before .put-record2 .ensures .0))
     (c .before .before .before .before .before .before .before .before .before .before .before .put-record3 .ensures .0) (c .before .before .before .before .before .before .before .put-record4 .ensures .0))
 
 pub put-records-spec : {M : Type 1} → statement M
 put-records-spec =
     tie.close
     (tie.spec
-    values-bytes-requires
+    encode-parameters-requires
     slice-aggregate-put-record
     put-record-requires
     slice-aggregate-put-record-2

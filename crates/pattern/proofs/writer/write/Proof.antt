@@ -1,4 +1,4 @@
--- `pattern::writer::write`: a refusal leaves the buffer; else the file is at its front (Writing.antt).
+-- `pattern::writer::write`: a refusal leaves the buffer; else the file is at its front (WritingLaws.antt).
 use Rattle.common.specs.Choice.{if_then_else_}
 use Prim.Native.Nat.{_+_}
 use mathlib.Core.Path.{_≡_, sym, ap, _∙_}
@@ -7,12 +7,12 @@ use lib.ListN.{length}
 use denote.Ref.{now}
 use borrow.Author.Tests.{lt-ltb, le-ltb, eq-eqb, ne-eqb, not-false}
 use Rattle.common.specs.Refusals.{unless}
-use Rattle.pattern.specs.Values.{formOf}
+use Rattle.pattern.specs.Parameters.{formOf}
 use Rattle.pattern.specs.Image.{trim}
 use Rattle.pattern.specs.ImageLaws.{trim-short}
-use Rattle.pattern.specs.Writer.{smallestSize, fileOf, writeOf, writeConditions}
+use Rattle.pattern.specs.Writer.{smallestLength, fileOf, writeOf, writeConditions}
 use Rattle.pattern.specs.WriterLaws.{file-length}
-use Rattle.pattern.proofs.Writing.{refused-leaves, accepted-puts}
+use Rattle.pattern.proofs.WritingLaws.{refused-leaves, accepted-puts}
 use borrow.Author.Needs.{needs}
 use Rattle.pattern.proofs.writer.write.Statement.{statement}
 use Rattle.pattern.proofs.writer.write.Tie as tie
@@ -23,7 +23,7 @@ in-range-requires c κs = search needs
 returns : tie.Need-returns
 unfolding unless if_then_else_ writeOf writeConditions
 returns c = let a = c .before .before .before .before .before .args in
-    refused-leaves (a .values) (now (a .image)) (now (a .input)) (now (a .buffer)) 9 (simp (← c .before .in-range .ensures, c .if1 .taken))
+    refused-leaves (a .parameters) (now (a .image)) (now (a .input)) (now (a .buffer)) 9 (simp (← c .before .in-range .ensures, c .if1 .taken))
 
 cast-if2 : tie.Need-cast-if2
 cast-if2 c = search needs
@@ -31,7 +31,7 @@ cast-if2 c = search needs
 returns-2 : tie.Need-returns-2
 unfolding unless if_then_else_ writeOf writeConditions
 returns-2 c = let a = c .before .before .before .before .before .before .before .before .args in
-    refused-leaves (a .values) (now (a .image)) (now (a .input)) (now (a .buffer)) 9 (simp (← c .before .before .before .before .in-range .ensures, c .before .before .before .if1 .left, ne-eqb _ _ (c .if2 .taken)))
+    refused-leaves (a .parameters) (now (a .image)) (now (a .input)) (now (a .buffer)) 9 (simp (← c .before .before .before .before .in-range .ensures, c .before .before .before .if1 .left, ne-eqb _ _ (c .if2 .taken)))
 
 cast-if3 : tie.Need-cast-if3
 cast-if3 c = search needs
@@ -39,7 +39,7 @@ cast-if3 c = search needs
 returns-3 : tie.Need-returns-3
 unfolding unless if_then_else_ writeOf writeConditions
 returns-3 c = let a = c .before .before .before .before .before .before .before .before .before .before .args in
-    refused-leaves (a .values) (now (a .image)) (now (a .input)) (now (a .buffer)) 11 (simp (← c .before .before .before .before .before .before .in-range .ensures, c .before .before .before .before .before .if1 .left, eq-eqb _ _ (c .before .before .if2 .left), lt-ltb _ _ (c .if3 .taken)))
+    refused-leaves (a .parameters) (now (a .image)) (now (a .input)) (now (a .buffer)) 11 (simp (← c .before .before .before .before .before .before .in-range .ensures, c .before .before .before .before .before .if1 .left, eq-eqb _ _ (c .before .before .if2 .left), lt-ltb _ _ (c .if3 .taken)))
 
 trimmed-requires : tie.Need-trimmed-requires
 trimmed-requires c κs = search needs
@@ -53,10 +53,10 @@ add-total-2 c = search needs
 returns-4 : tie.Need-returns-4
 unfolding unless if_then_else_ writeOf writeConditions
 returns-4 c = let a = c .before .before .before .before .before .before .before .before .before .before .before .before .args in
-    let size : length (fileOf (a .values) (now (a .image)) (now (a .input))) ≡ smallestSize (formOf (a .values)) + length (now (c .before .trimmed .result)) + length (now (a .input)) =
-    rw (c .before .trimmed .ensures) (file-length (a .values) (trim (now (a .image))) (now (a .input)))
+    let size : length (fileOf (a .parameters) (now (a .image)) (now (a .input))) ≡ smallestLength (formOf (a .parameters)) + length (now (c .before .trimmed .result)) + length (now (a .input)) =
+    rw (c .before .trimmed .ensures) (file-length (a .parameters) (trim (now (a .image))) (now (a .input)))
     in
-    refused-leaves (a .values) (now (a .image)) (now (a .input)) (now (a .buffer)) 16
+    refused-leaves (a .parameters) (now (a .image)) (now (a .input)) (now (a .buffer)) 16
     (simp (← c .before .before .before .before .before .before .before .before .in-range .ensures, c .before .before .before .before .before .before .before .if1 .left, eq-eqb _ _ (c .before .before .before .before .if2 .left), le-ltb _ _ (c .before .before .if3 .left), size, lt-ltb _ _ (c .if4 .taken)))
 
 put-records-requires : tie.Need-put-records-requires
@@ -68,10 +68,10 @@ same-length c = search needs
 
 returns-5 : tie.Need-returns-5
 returns-5 c = let a = c .before .before .before .before .before .before .before .before .before .before .before .before .before .before .before .before .args in
-    let size : length (fileOf (a .values) (now (a .image)) (now (a .input))) ≡ smallestSize (formOf (a .values)) + length (now (c .before .before .before .before .before .trimmed .result)) + length (now (a .input)) =
-    rw (c .before .before .before .before .before .trimmed .ensures) (file-length (a .values) (trim (now (a .image))) (now (a .input)))
+    let size : length (fileOf (a .parameters) (now (a .image)) (now (a .input))) ≡ smallestLength (formOf (a .parameters)) + length (now (c .before .before .before .before .before .trimmed .result)) + length (now (a .input)) =
+    rw (c .before .before .before .before .before .trimmed .ensures) (file-length (a .parameters) (trim (now (a .image))) (now (a .input)))
     in
-    accepted-puts (a .values) (now (a .image)) (now (a .input)) (now (a .buffer)) _ (smallestSize (formOf (a .values)) + length (now (c .before .before .before .before .before .trimmed .result)) + length (now (a .input)))
+    accepted-puts (a .parameters) (now (a .image)) (now (a .input)) (now (a .buffer)) _ (smallestLength (formOf (a .parameters)) + length (now (c .before .before .before .before .before .trimmed .result)) + length (now (a .input)))
     (record {
       range = sym (c .before .before .before .before .before .before .before .before .before .before .before .before .in-range .ensures) ∙ not-false (c .before .before .before .before .before .before .before .before .before .before .before .before .in-range .result) (c .before .before .before .before .before .before .before .before .before .before .before .if1 .left);
       whole = c .before .before .before .before .before .before .before .before .if2 .left;

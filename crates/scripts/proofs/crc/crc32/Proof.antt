@@ -1,4 +1,4 @@
--- `scripts::crc::crc32`: safe and ends: each turn passes a byte.
+-- `scripts::crc::crc32`: safe and ends: each iteration passes a byte.
 use Prim.Native.Nat.{_-_}
 use native.Mathlib.Omega.{arith}
 use lib.ListN.{length}

@@ -1,19 +1,20 @@
--- `supervisor::draining::drain`: the written bytes lie in memory and fit the buffer (Drains.antt).
+-- `supervisor::draining::drain`: the written bytes lie in memory and fit the buffer (DrainingLaws.antt).
 use mathlib.Core.Path.{_∙_}
 use native.Mathlib.Omega.{arith}
 use lib.ListN.{length}
 use borrow.Author.Tests.{eq-eqb, ne-eqb}
 use denote.Ref.{now}
 use Rattle.common.specs.Choice.{if_then_else_}
-use Rattle.slices.specs.Laws.{copied-none}
-use Rattle.supervisor.specs.Calls.{effect, patchOf, drainedCount, drainedBuffer}
+use Rattle.slices.specs.SliceLaws.{copied-none}
+use Rattle.supervisor.specs.Calls.{afterAccepted, patchOf, drainedCount, drainedBuffer}
 use Rattle.supervisor.specs.Calls as calls
-use Rattle.supervisor.specs.Changes.{drain-accepted}
-use Rattle.supervisor.specs.Operations.{patched, drainPatch}
+use Rattle.supervisor.specs.ChangeLaws.{drain-accepted}
+use Rattle.supervisor.specs.System.{patched}
+use Rattle.supervisor.specs.Draining.{drainPatch}
 use Rattle.supervisor.specs.Table.{slotAt, withSlot}
-use Rattle.supervisor.proofs.Accepted.{held-end}
-use Rattle.supervisor.proofs.Drains.{drained-buffer}
-use Rattle.supervisor.specs.Outcomes.{refused, accepted}
+use Rattle.supervisor.proofs.LoadedSlotLaws.{loaded-end}
+use Rattle.supervisor.proofs.DrainingLaws.{drained-buffer}
+use Rattle.supervisor.specs.OutcomeLaws.{refused-outcome, accepted-outcome}
 use borrow.Author.Needs.{needs}
 use Rattle.supervisor.proofs.draining.drain.Statement.{statement}
 use Rattle.supervisor.proofs.draining.drain.Tie as tie
@@ -25,26 +26,26 @@ returns : tie.Need-returns
 unfolding drainedCount drainedBuffer if_then_else_
 returns c =
     let start = c .before .before .before .before .args in
-    (refused (calls.change (start .slot) (calls.drain (length (now (start .buffer))))) _ (c .before .drain-refusal .ensures) (c .if1 .taken), (rw (← c .before .drain-refusal .ensures, ne-eqb _ _ (c .if1 .taken)), rw (← c .before .drain-refusal .ensures, ne-eqb _ _ (c .if1 .taken))))
+    (refused-outcome (calls.change (start .slot) (calls.drain (length (now (start .buffer))))) _ (c .before .drain-refusal .ensures) (c .if1 .taken), (rw (← c .before .drain-refusal .ensures, ne-eqb _ _ (c .if1 .taken)), rw (← c .before .drain-refusal .ensures, ne-eqb _ _ (c .if1 .taken))))
 
 mul-s : tie.Need-mul-s
 mul-s c =
     let start = c .before .before .before .before .args in
-    omega (arith, drain-accepted _ (start .slot) (length (now (start .buffer))) (c .before .drain-refusal .ensures) (c .if1 .left) .0 .held .slot)
+    omega (arith, drain-accepted _ (start .slot) (length (now (start .buffer))) (c .before .drain-refusal .ensures) (c .if1 .left) .0 .holds .slot)
 
 element-copy-out-s : tie.Need-element-copy-out-s
 element-copy-out-s c =
     let start = c .before .before .before .before .args in
-    drain-accepted _ (start .slot) (length (now (start .buffer))) (c .before .drain-refusal .ensures) (c .if1 .left) .0 .held .slot
+    drain-accepted _ (start .slot) (length (now (start .buffer))) (c .before .drain-refusal .ensures) (c .if1 .left) .0 .holds .slot
 
 cast-count : tie.Need-cast-count
 cast-count c = search needs
 
-output-at-requires : tie.Need-output-at-requires
+output-location-requires : tie.Need-output-location-requires
 unfolding slotAt
-output-at-requires c κs =
+output-location-requires c κs =
     let start = c .before .before .before .before .before .before .before .before .args in
-    held-end (start .t1) (start .slot) (drain-accepted _ (start .slot) (length (now (start .buffer))) (c .before .before .before .before .before .drain-refusal .ensures) (c .before .before .before .before .if1 .left) .0 .held)
+    loaded-end (start .t1) (start .slot) (drain-accepted _ (start .slot) (length (now (start .buffer))) (c .before .before .before .before .before .drain-refusal .ensures) (c .before .before .before .before .if1 .left) .0 .holds)
 
 cast-part : tie.Need-cast-part
 cast-part c = search needs
@@ -55,27 +56,27 @@ part-requires c κs = search needs
 copy-requires : tie.Need-copy-requires
 copy-requires c κs = search needs
 
-emptied-requires : tie.Need-emptied-requires
-emptied-requires c κs = search needs
+drained-state-requires : tie.Need-drained-state-requires
+drained-state-requires c κs = search needs
 
 mul-t15 : tie.Need-mul-t15
 mul-t15 c =
     let start = c .before .before .before .before .before .before .before .before .before .before .before .before .before .before .before .before .args in
-    omega (arith, drain-accepted _ (start .slot) (length (now (start .buffer))) (c .before .before .before .before .before .before .before .before .before .before .before .before .before .drain-refusal .ensures) (c .before .before .before .before .before .before .before .before .before .before .before .before .if1 .left) .0 .held .slot)
+    omega (arith, drain-accepted _ (start .slot) (length (now (start .buffer))) (c .before .before .before .before .before .before .before .before .before .before .before .before .before .drain-refusal .ensures) (c .before .before .before .before .before .before .before .before .before .before .before .before .if1 .left) .0 .holds .slot)
 
 element-set-from-next : tie.Need-element-set-from-next
 element-set-from-next c =
     let start = c .before .before .before .before .before .before .before .before .before .before .before .before .before .before .before .before .args in
-    drain-accepted _ (start .slot) (length (now (start .buffer))) (c .before .before .before .before .before .before .before .before .before .before .before .before .before .drain-refusal .ensures) (c .before .before .before .before .before .before .before .before .before .before .before .before .if1 .left) .0 .held .slot
+    drain-accepted _ (start .slot) (length (now (start .buffer))) (c .before .before .before .before .before .before .before .before .before .before .before .before .before .drain-refusal .ensures) (c .before .before .before .before .before .before .before .before .before .before .before .before .if1 .left) .0 .holds .slot
 
 same-length : tie.Need-same-length
 same-length c = search needs
 
 returns-2 : tie.Need-returns-2
-unfolding effect patchOf patched drainPatch drainedCount withSlot slotAt if_then_else_
+unfolding afterAccepted patchOf patched drainPatch drainedCount withSlot slotAt if_then_else_
 returns-2 c =
     let start = c .before .before .before .before .before .before .before .before .before .before .before .before .before .before .before .before .args in
-    (accepted (calls.change (start .slot) (calls.drain (length (now (start .buffer))))) _ _ _ (c .before .before .before .before .before .before .before .before .before .before .before .before .before .drain-refusal .ensures) (c .before .before .before .before .before .before .before .before .before .before .before .before .if1 .left) (rw (c .emptied .ensures, copied-none)), (rw (← c .before .before .before .before .before .before .before .before .before .before .before .before .before .drain-refusal .ensures, eq-eqb _ _ (c .before .before .before .before .before .before .before .before .before .before .before .before .if1 .left)), c .before .before .before .copy .ensures ∙ rw (c .before .before .before .before .part .ensures, c .before .before .before .before .before .before .before .output-at .ensures) (drained-buffer _ (start .slot) (now (start .buffer)) (c .before .before .before .before .before .before .before .before .before .before .before .before .before .drain-refusal .ensures) (c .before .before .before .before .before .before .before .before .before .before .before .before .if1 .left))))
+    (accepted-outcome (calls.change (start .slot) (calls.drain (length (now (start .buffer))))) _ _ _ (c .before .before .before .before .before .before .before .before .before .before .before .before .before .drain-refusal .ensures) (c .before .before .before .before .before .before .before .before .before .before .before .before .if1 .left) (rw (c .drained-state .ensures, copied-none)), (rw (← c .before .before .before .before .before .before .before .before .before .before .before .before .before .drain-refusal .ensures, eq-eqb _ _ (c .before .before .before .before .before .before .before .before .before .before .before .before .if1 .left)), c .before .before .before .copy .ensures ∙ rw (c .before .before .before .before .part .ensures, c .before .before .before .before .before .before .before .output-location .ensures) (drained-buffer _ (start .slot) (now (start .buffer)) (c .before .before .before .before .before .before .before .before .before .before .before .before .before .drain-refusal .ensures) (c .before .before .before .before .before .before .before .before .before .before .before .before .if1 .left))))
 
 pub drain-spec : {M : Type 1} → statement M
 drain-spec =
@@ -86,11 +87,11 @@ drain-spec =
     mul-s
     element-copy-out-s
     cast-count
-    output-at-requires
+    output-location-requires
     cast-part
     part-requires
     copy-requires
-    emptied-requires
+    drained-state-requires
     mul-t15
     element-set-from-next
     same-length

@@ -1,19 +1,20 @@
--- `supervisor::loading::load`: the conditions come in the order slot, file, place (Loads.antt), and what is left in two laws for every call (Outcomes.antt).
+-- `supervisor::loading::load`: the conditions come in the order slot, file, place (LoadingLaws.antt), and what is left in two laws for every call (OutcomeLaws.antt).
 use mathlib.Core.Path.{sym, ap, _∙_}
 use denote.Ref.{now}
 use Rattle.common.specs.Refusals.{refusalBy}
-use Rattle.supervisor.specs.Calls.{effect, patchOf}
+use Rattle.supervisor.specs.Calls.{afterAccepted, patchOf}
 use Rattle.supervisor.specs.Calls as calls
-use Rattle.supervisor.specs.Operations.{system, partitionFor, placeConditions}
+use Rattle.supervisor.specs.System.{system}
+use Rattle.supervisor.specs.Loading.{partitionFor, placeConditions}
 use Rattle.supervisor.specs.declared.table.Partition.{Partition}
-use Rattle.supervisor.proofs.Loads.{load-stops, load-refused, load-places, free-accepted}
-use Rattle.supervisor.specs.Outcomes.{refused, accepted}
+use Rattle.supervisor.proofs.LoadingLaws.{load-stops, load-refused, load-places, vacant-accepted}
+use Rattle.supervisor.specs.OutcomeLaws.{refused-outcome, accepted-outcome}
 use borrow.Author.Needs.{needs}
 use Rattle.supervisor.proofs.loading.load.Statement.{statement}
 use Rattle.supervisor.proofs.loading.load.Tie as tie
 
-free-refusal-requires : tie.Need-free-refusal-requires
-free-refusal-requires c κs = search needs
+memory-empty-refusal-requires : tie.Need-memory-empty-refusal-requires
+memory-empty-refusal-requires c κs = search needs
 
 same-length : tie.Need-same-length
 same-length c = search needs
@@ -21,7 +22,7 @@ same-length c = search needs
 returns : tie.Need-returns
 returns c =
     let start = c .before .before .before .before .before .args in
-    refused (calls.change (start .slot) (calls.load (start .location) (now (start .file)))) _ (load-stops _ (start .slot) (start .location) (now (start .file)) (c .before .free-refusal .ensures) (c .if1 .taken)) (c .if1 .taken)
+    refused-outcome (calls.change (start .slot) (calls.load (start .location) (now (start .file)))) _ (load-stops _ (start .slot) (start .location) (now (start .file)) (c .before .memory-empty-refusal .ensures) (c .if1 .taken)) (c .if1 .taken)
 
 read-requires : tie.Need-read-requires
 read-requires c κs = search needs
@@ -41,8 +42,8 @@ same-length-2 c = search needs
 returns-2 : tie.Need-returns-2
 returns-2 c =
     let start = c .before .before .before .before .before .before .before .before .before .args in
-    let h = load-refused _ (start .slot) (start .location) (now (start .file)) (c .before .before .before .before .before .free-refusal .ensures) (c .before .before .before .before .if1 .left) (c .before .before .before .read .result) (c .before .before .before .read .ensures) (c .before .enum-told .given .1) in
-    refused (calls.change (start .slot) (calls.load (start .location) (now (start .file)))) _ (c .refusal .ensures ∙ h .0) (λ z. h .1 (sym (c .refusal .ensures) ∙ z))
+    let h = load-refused _ (start .slot) (start .location) (now (start .file)) (c .before .before .before .before .before .memory-empty-refusal .ensures) (c .before .before .before .before .if1 .left) (c .before .before .before .read .result) (c .before .before .before .read .ensures) (c .before .enum-told .given .1) in
+    refused-outcome (calls.change (start .slot) (calls.load (start .location) (now (start .file)))) _ (c .refusal .ensures ∙ h .0) (λ z. h .1 (sym (c .refusal .ensures) ∙ z))
 
 partition-for-requires : tie.Need-partition-for-requires
 partition-for-requires c κs = search needs
@@ -56,31 +57,31 @@ same-length-3 c = search needs
 returns-3 : tie.Need-returns-3
 returns-3 c =
     let start = c .before .before .before .before .before .before .before .before .before .before .before .before .args in
-    let h = load-places _ (start .slot) (start .location) (now (start .file)) (c .before .before .before .before .before .before .before .before .free-refusal .ensures) (c .before .before .before .before .before .before .before .if1 .left) (c .before .before .before .before .before .before .read .result) (c .before .before .before .before .before .before .read .ensures) (c .before .before .before .before .answer .given .1) in
-    refused (calls.change (start .slot) (calls.load (start .location) (now (start .file)))) _ (c .before .place-refusal .ensures ∙ ap (λ (p : Partition). refusalBy (placeConditions (start .table) (start .slot) p)) (c .before .before .partition-for .ensures) ∙ sym h) (c .if2 .taken)
+    let h = load-places _ (start .slot) (start .location) (now (start .file)) (c .before .before .before .before .before .before .before .before .memory-empty-refusal .ensures) (c .before .before .before .before .before .before .before .if1 .left) (c .before .before .before .before .before .before .read .result) (c .before .before .before .before .before .before .read .ensures) (c .before .before .before .before .answer .given .1) in
+    refused-outcome (calls.change (start .slot) (calls.load (start .location) (now (start .file)))) _ (c .before .place-refusal .ensures ∙ ap (λ (p : Partition). refusalBy (placeConditions (start .table) (start .slot) p)) (c .before .before .partition-for .ensures) ∙ sym h) (c .if2 .taken)
 
-loaded-requires : tie.Need-loaded-requires
+load-slot-requires : tie.Need-load-slot-requires
 unfolding partitionFor
-loaded-requires c κs =
+load-slot-requires c κs =
     let start = c .before .before .before .before .before .before .before .before .before .before .before .before .before .args in
-    let h = free-accepted (system (start .table) (now (start .memory))) (start .slot) (c .before .before .before .before .before .before .before .before .before .free-refusal .ensures) (c .before .before .before .before .before .before .before .before .if1 .left) in
+    let h = vacant-accepted (system (start .table) (now (start .memory))) (start .slot) (c .before .before .before .before .before .before .before .before .before .memory-empty-refusal .ensures) (c .before .before .before .before .before .before .before .before .if1 .left) in
     (h .1, (sym (c .before .before .before .before .before .before .before .read .ensures) ∙ c .before .before .before .before .before .answer .given .1, rw (c .before .before .before .partition-for .ensures)))
 
 same-length-4 : tie.Need-same-length-4
 same-length-4 c = search needs
 
 returns-4 : tie.Need-returns-4
-unfolding effect patchOf partitionFor
+unfolding afterAccepted patchOf partitionFor
 returns-4 c =
     let start = c .before .before .before .before .before .before .before .before .before .before .before .before .before .before .before .before .args in
-    let h = load-places _ (start .slot) (start .location) (now (start .file)) (c .before .before .before .before .before .before .before .before .before .before .before .before .free-refusal .ensures) (c .before .before .before .before .before .before .before .before .before .before .before .if1 .left) (c .before .before .before .before .before .before .before .before .before .before .read .result) (c .before .before .before .before .before .before .before .before .before .before .read .ensures) (c .before .before .before .before .before .before .before .before .answer .given .1) in
-    accepted (calls.change (start .slot) (calls.load (start .location) (now (start .file)))) _ _ _ (c .before .before .before .before .before .place-refusal .ensures ∙ ap (λ (p : Partition). refusalBy (placeConditions (start .table) (start .slot) p)) (c .before .before .before .before .before .before .partition-for .ensures) ∙ sym h) (c .before .before .before .before .if2 .left) (c .before .before .loaded .ensures ∙ rw (c .before .before .before .before .before .before .partition-for .ensures))
+    let h = load-places _ (start .slot) (start .location) (now (start .file)) (c .before .before .before .before .before .before .before .before .before .before .before .before .memory-empty-refusal .ensures) (c .before .before .before .before .before .before .before .before .before .before .before .if1 .left) (c .before .before .before .before .before .before .before .before .before .before .read .result) (c .before .before .before .before .before .before .before .before .before .before .read .ensures) (c .before .before .before .before .before .before .before .before .answer .given .1) in
+    accepted-outcome (calls.change (start .slot) (calls.load (start .location) (now (start .file)))) _ _ _ (c .before .before .before .before .before .place-refusal .ensures ∙ ap (λ (p : Partition). refusalBy (placeConditions (start .table) (start .slot) p)) (c .before .before .before .before .before .before .partition-for .ensures) ∙ sym h) (c .before .before .before .before .if2 .left) (c .before .before .load-slot .ensures ∙ rw (c .before .before .before .before .before .before .partition-for .ensures))
 
 pub load-spec : {M : Type 1} → statement M
 load-spec =
     tie.close
     (tie.spec
-    free-refusal-requires
+    memory-empty-refusal-requires
     same-length
     returns
     read-requires
@@ -93,6 +94,6 @@ load-spec =
     place-refusal-requires
     same-length-3
     returns-3
-    loaded-requires
+    load-slot-requires
     same-length-4
     returns-4)

@@ -1,6 +1,6 @@
 -- `supervisor::loading::partition_for`: by computation.
 use mathlib.Core.Path.{refl}
-use Rattle.supervisor.specs.Operations.{partitionFor}
+use Rattle.supervisor.specs.Loading.{partitionFor}
 use Rattle.supervisor.proofs.loading.partition_for.Statement.{statement}
 use Rattle.supervisor.proofs.loading.partition_for.Tie as tie
 

@@ -2,7 +2,7 @@
 use borrow.Author.Tests.{lt-ltb, le-ltb, not-true, not-false}
 use Rattle.common.specs.Choice.{if_then_else_}
 use Rattle.common.specs.Refusals.{unless, refusalBy}
-use Rattle.supervisor.specs.Operations.{placeConditions}
+use Rattle.supervisor.specs.Loading.{placeConditions}
 use borrow.Author.Needs.{needs}
 use Rattle.supervisor.proofs.loading.place_refusal.Statement.{statement}
 use Rattle.supervisor.proofs.loading.place_refusal.Tie as tie
@@ -17,16 +17,16 @@ returns : tie.Need-returns
 unfolding refusalBy unless if_then_else_ placeConditions
 returns c = rw (← c .before .end .ensures, lt-ltb _ _ (c .if1 .taken))
 
-clear-of-requires : tie.Need-clear-of-requires
-clear-of-requires c κs = search needs
+clear-of-others-requires : tie.Need-clear-of-others-requires
+clear-of-others-requires c κs = search needs
 
 returns-2 : tie.Need-returns-2
 unfolding refusalBy unless if_then_else_ placeConditions
-returns-2 c = rw (← c .before .before .before .end .ensures, le-ltb _ _ (c .before .before .if1 .left), ← c .before .clear-of .ensures, not-true (c .before .clear-of .result) (c .if2 .taken))
+returns-2 c = rw (← c .before .before .before .end .ensures, le-ltb _ _ (c .before .before .if1 .left), ← c .before .clear-of-others .ensures, not-true (c .before .clear-of-others .result) (c .if2 .taken))
 
 returns-3 : tie.Need-returns-3
 unfolding refusalBy unless if_then_else_ placeConditions
-returns-3 c = rw (← c .before .before .before .end .ensures, le-ltb _ _ (c .before .before .if1 .left), ← c .before .clear-of .ensures, not-false (c .before .clear-of .result) (c .if2 .left))
+returns-3 c = rw (← c .before .before .before .end .ensures, le-ltb _ _ (c .before .before .if1 .left), ← c .before .clear-of-others .ensures, not-false (c .before .clear-of-others .result) (c .if2 .left))
 
 pub place-refusal-spec : {M : Type 1} → statement M
-place-refusal-spec = tie.close (tie.spec cast-if1 end-requires returns clear-of-requires returns-2 returns-3)
+place-refusal-spec = tie.close (tie.spec cast-if1 end-requires returns clear-of-others-requires returns-2 returns-3)

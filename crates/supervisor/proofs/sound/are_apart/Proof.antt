@@ -1,5 +1,5 @@
 -- `supervisor::sound::are_apart`: in the shape of its definition.
-use Rattle.supervisor.specs.Table.{apart}
+use Rattle.supervisor.specs.Sound.{apart}
 use borrow.Author.Needs.{needs}
 use Rattle.supervisor.proofs.sound.are_apart.Statement.{statement}
 use Rattle.supervisor.proofs.sound.are_apart.Tie as tie

@@ -1,6 +1,6 @@
 -- `supervisor::sound::partition_sound`: in the shape of its definition.
 use Rattle.common.specs.Tests.{allAfter}
-use Rattle.supervisor.specs.Table.{partitionSound}
+use Rattle.supervisor.specs.Sound.{partitionSound}
 use borrow.Author.Needs.{needs}
 use Rattle.supervisor.proofs.sound.partition_sound.Statement.{statement}
 use Rattle.supervisor.proofs.sound.partition_sound.Tie as tie

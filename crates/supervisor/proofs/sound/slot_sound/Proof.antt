@@ -1,5 +1,5 @@
 -- `supervisor::sound::slot_sound`: in the shape of its definition.
-use Rattle.supervisor.specs.Table.{slotSound}
+use Rattle.supervisor.specs.Sound.{slotSound}
 use borrow.Author.Needs.{needs}
 use Rattle.supervisor.proofs.sound.slot_sound.Statement.{statement}
 use Rattle.supervisor.proofs.sound.slot_sound.Tie as tie

@@ -1,4 +1,4 @@
--- `supervisor::sound::zero_bytes`: a loop over `allBelow` (All.antt).
+-- `supervisor::sound::zero_bytes`: a loop over `allBelow` (AllBelowLaws.antt).
 use Prim.Native.Nat.{ℕ, _≤_, _-_}
 use mathlib.Core.Bool.{Bool}
 use mathlib.Core.List.{List}
@@ -7,9 +7,9 @@ use native.Mathlib.Omega.{arith}
 use lib.Dec.{eqb}
 use lib.ListN.{length, getD}
 use denote.Ref.{now}
-use Rattle.supervisor.specs.Table.{allZero}
+use Rattle.supervisor.specs.Sound.{allZero}
 use Rattle.common.specs.Tests.{allBelow}
-use Rattle.supervisor.proofs.All.{all-none, all-more, all-done}
+use Rattle.supervisor.proofs.AllBelowLaws.{all-none, all-more, all-done}
 use Rattle.supervisor.proofs.sound.zero_bytes.Statement.{statement}
 use Rattle.supervisor.proofs.sound.zero_bytes.Tie as tie
 

@@ -1,7 +1,7 @@
 -- `supervisor::sound::zero_partition`: in the shape of its definition.
 use mathlib.Core.Path.{refl}
 use Rattle.common.specs.Tests.{allAfter}
-use Rattle.supervisor.specs.Table.{zeroPartition}
+use Rattle.supervisor.specs.Sound.{zeroPartition}
 use Rattle.supervisor.proofs.sound.zero_partition.Statement.{statement}
 use Rattle.supervisor.proofs.sound.zero_partition.Tie as tie
 

@@ -1,6 +1,6 @@
 -- `supervisor::sound::zero_state`: in the shape of its definition.
 use Rattle.common.specs.Tests.{allAfter}
-use Rattle.supervisor.specs.Table.{zeroState}
+use Rattle.supervisor.specs.Sound.{zeroState}
 use borrow.Author.Needs.{needs}
 use Rattle.supervisor.proofs.sound.zero_state.Statement.{statement}
 use Rattle.supervisor.proofs.sound.zero_state.Tie as tie

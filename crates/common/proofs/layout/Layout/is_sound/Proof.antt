@@ -1,5 +1,5 @@
 -- `common::layout::Layout::is_sound`: each test is the one that the definition makes.
-use Rattle.common.specs.Layouts.{layoutSound}
+use Rattle.common.specs.Layout.{layoutSound}
 use Rattle.common.specs.Tests.{allAfter}
 use borrow.Author.Needs.{needs}
 use Rattle.common.proofs.layout.Layout.is_sound.Statement.{statement}

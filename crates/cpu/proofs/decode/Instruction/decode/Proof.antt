@@ -1,47 +1,47 @@
 use Prim.Native.Nat.{_/_}
-use Rattle.cpu.proofs.Rest.{last-class, rest-le}
+use Rattle.cpu.proofs.LastArmLaws.{last-class, last-arm-least}
 use Rattle.cpu.specs.Decode.{decodeOf}
 use mathlib.Core.Path.{_≡_}
 use borrow.Author.Needs.{needs}
 use Rattle.cpu.proofs.decode.Instruction.decode.Statement.{statement}
 use Rattle.cpu.proofs.decode.Instruction.decode.Tie as tie
 
-first-requires : tie.Need-first-requires
-first-requires c κs = search needs
+first-and-rest-requires : tie.Need-first-and-rest-requires
+first-and-rest-requires c κs = search needs
 
-four-requires : tie.Need-four-requires
-four-requires c κs = search needs
+each-of-four-requires : tie.Need-each-of-four-requires
+each-of-four-requires c κs = search needs
 
-first-requires-2 : tie.Need-first-requires-2
-first-requires-2 c κs = search needs
+first-and-rest-requires-2 : tie.Need-first-and-rest-requires-2
+first-and-rest-requires-2 c κs = search needs
 
-four-requires-2 : tie.Need-four-requires-2
-four-requires-2 c κs = search needs
+each-of-four-requires-2 : tie.Need-each-of-four-requires-2
+each-of-four-requires-2 c κs = search needs
 
-four-requires-3 : tie.Need-four-requires-3
-four-requires-3 c κs = search needs
+each-of-four-requires-3 : tie.Need-each-of-four-requires-3
+each-of-four-requires-3 c κs = search needs
 
-last-requires : tie.Need-last-requires
-last-requires c κs = search needs
+rest-and-last-requires : tie.Need-rest-and-last-requires
+rest-and-last-requires c κs = search needs
 
-last-requires-2 : tie.Need-last-requires-2
-last-requires-2 c κs = search needs
+rest-and-last-requires-2 : tie.Need-rest-and-last-requires-2
+rest-and-last-requires-2 c κs = search needs
 
-four-requires-4 : tie.Need-four-requires-4
-four-requires-4 c κs = search needs
+each-of-four-requires-4 : tie.Need-each-of-four-requires-4
+each-of-four-requires-4 c κs = search needs
 
-last-requires-3 : tie.Need-last-requires-3
-last-requires-3 c κs = search needs
+rest-and-last-requires-3 : tie.Need-rest-and-last-requires-3
+rest-and-last-requires-3 c κs = search needs
 
-last-requires-4 : tie.Need-last-requires-4
-last-requires-4 c κs = search needs
+rest-and-last-requires-4 : tie.Need-rest-and-last-requires-4
+rest-and-last-requires-4 c κs = search needs
 
-first-requires-3 : tie.Need-first-requires-3
-first-requires-3 c κs = search needs
+first-and-rest-requires-3 : tie.Need-first-and-rest-requires-3
+first-and-rest-requires-3 c κs = search needs
 
 returns : tie.Need-returns
 unfolding decodeOf
-returns c = rw (c .before .match .keys1, ← c .first .ensures)
+returns c = rw (c .before .match .keys1, ← c .first-and-rest .ensures)
 
 returns-2 : tie.Need-returns-2
 unfolding decodeOf
@@ -57,7 +57,7 @@ returns-4 c = rw (c .match .keys4)
 
 returns-5 : tie.Need-returns-5
 unfolding decodeOf
-returns-5 c = rw (c .before .match .keys5, ← c .four .ensures)
+returns-5 c = rw (c .before .match .keys5, ← c .each-of-four .ensures)
 
 returns-6 : tie.Need-returns-6
 unfolding decodeOf
@@ -105,7 +105,7 @@ returns-16 c = rw (c .match .keys16)
 
 returns-17 : tie.Need-returns-17
 unfolding decodeOf
-returns-17 c = rw (c .before .match .keys17, ← c .first2 .ensures)
+returns-17 c = rw (c .before .match .keys17, ← c .first-and-rest2 .ensures)
 
 returns-18 : tie.Need-returns-18
 unfolding decodeOf
@@ -157,7 +157,7 @@ returns-29 c = rw (c .match .keys29)
 
 returns-30 : tie.Need-returns-30
 unfolding decodeOf
-returns-30 c = rw (c .before .match .keys30, ← c .four2 .ensures)
+returns-30 c = rw (c .before .match .keys30, ← c .each-of-four2 .ensures)
 
 returns-31 : tie.Need-returns-31
 unfolding decodeOf
@@ -185,7 +185,7 @@ returns-36 c = rw (c .match .keys36)
 
 returns-37 : tie.Need-returns-37
 unfolding decodeOf
-returns-37 c = rw (c .before .match .keys37, ← c .four3 .ensures)
+returns-37 c = rw (c .before .match .keys37, ← c .each-of-four3 .ensures)
 
 returns-38 : tie.Need-returns-38
 unfolding decodeOf
@@ -193,11 +193,11 @@ returns-38 c = rw (c .match .keys38)
 
 returns-39 : tie.Need-returns-39
 unfolding decodeOf
-returns-39 c = rw (c .before .match .keys39, ← c .last .ensures)
+returns-39 c = rw (c .before .match .keys39, ← c .rest-and-last .ensures)
 
 returns-40 : tie.Need-returns-40
 unfolding decodeOf
-returns-40 c = rw (c .before .match .keys40, ← c .last2 .ensures)
+returns-40 c = rw (c .before .match .keys40, ← c .rest-and-last2 .ensures)
 
 returns-41 : tie.Need-returns-41
 unfolding decodeOf
@@ -221,19 +221,19 @@ returns-45 c = rw (c .match .keys45)
 
 returns-46 : tie.Need-returns-46
 unfolding decodeOf
-returns-46 c = rw (c .before .match .keys46, ← c .four4 .ensures)
+returns-46 c = rw (c .before .match .keys46, ← c .each-of-four4 .ensures)
 
 returns-47 : tie.Need-returns-47
 unfolding decodeOf
-returns-47 c = rw (c .before .match .keys47, ← c .last3 .ensures)
+returns-47 c = rw (c .before .match .keys47, ← c .rest-and-last3 .ensures)
 
 returns-48 : tie.Need-returns-48
 unfolding decodeOf
-returns-48 c = rw (c .before .match .keys48, ← c .last4 .ensures)
+returns-48 c = rw (c .before .match .keys48, ← c .rest-and-last4 .ensures)
 
 returns-49 : tie.Need-returns-49
 unfolding decodeOf
-returns-49 c = rw (c .before .match .keys49, ← c .first3 .ensures)
+returns-49 c = rw (c .before .match .keys49, ← c .first-and-rest3 .ensures)
 
 returns-50 : tie.Need-returns-50
 unfolding decodeOf
@@ -293,23 +293,23 @@ returns-63 c = rw (c .match .keys63)
 
 returns-64 : tie.Need-returns-64
 unfolding decodeOf
-returns-64 c = let h : c .before .args .op / 4 ≡ 63 = last-class (c .before .args .op) (c .before .fits .op .fits) (rest-le 63 (c .before .args .op / 4) (c .match .rest)) in rw h
+returns-64 c = let h : c .before .args .op / 4 ≡ 63 = last-class (c .before .args .op) (c .before .fits .op .fits) (last-arm-least 63 (c .before .args .op / 4) (c .match .rest)) in rw h
 
 pub decode-spec : {M : Type 1} → statement M
 decode-spec =
     tie.close
     (tie.spec
-    first-requires
-    four-requires
-    first-requires-2
-    four-requires-2
-    four-requires-3
-    last-requires
-    last-requires-2
-    four-requires-4
-    last-requires-3
-    last-requires-4
-    first-requires-3
+    first-and-rest-requires
+    each-of-four-requires
+    first-and-rest-requires-2
+    each-of-four-requires-2
+    each-of-four-requires-3
+    rest-and-last-requires
+    rest-and-last-requires-2
+    each-of-four-requires-4
+    rest-and-last-requires-3
+    rest-and-last-requires-4
+    first-and-rest-requires-3
     returns
     returns-2
     returns-3

@@ -1,5 +1,5 @@
 -- `supervisor::table::Slot::empty`: by what its parts ensure.
-use Rattle.supervisor.specs.Operations.{emptySlot}
+use Rattle.supervisor.specs.Table.{emptySlot}
 use borrow.Author.Needs.{needs}
 use Rattle.supervisor.proofs.table.Slot.empty.Statement.{statement}
 use Rattle.supervisor.proofs.table.Slot.empty.Tie as tie

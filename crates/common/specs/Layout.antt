@@ -1,0 +1,15 @@
+-- Definitions that must be believed: how many bytes a partition of that layout has, and which layouts there are
+-- (document 01, "Pattern file, form 1", `PB`).
+use mathlib.Core.Bool.{Bool}
+use mathlib.Core.List.{[], _∷_}
+use Prim.Native.Nat.{ℕ, _+_}
+use Rattle.common.specs.Ranges.{within}
+use Rattle.common.specs.Tests.{all}
+use Rattle.common.specs.declared.layout.Layout.{Layout}
+
+abbrev pub layoutSize : Layout → ℕ
+layoutSize l = l .window + l .input + l .output
+
+-- a window of 1 to 32,768 bytes, and capacities of 1 to 4,096
+unfoldable pub layoutSound : Layout → Bool
+layoutSound l = all (within (l .window) 32768 ∷ within (l .input) 4096 ∷ within (l .output) 4096 ∷ [])

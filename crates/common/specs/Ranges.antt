@@ -1,0 +1,8 @@
+-- Definitions that must be believed: a range of numbers.
+use Prim.Native.Nat.{ℕ}
+use lib.Dec.{leb}
+use mathlib.Core.Bool.{Bool, _&&_}
+
+-- n is 1 to most
+abbrev pub within : ℕ → ℕ → Bool
+within n most = leb 1 n && leb n most

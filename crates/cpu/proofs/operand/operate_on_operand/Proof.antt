@@ -1,0 +1,95 @@
+use Prim.Native.Nat.{_%_}
+use Rattle.cpu.proofs.PackedCpuLaws.{stored-byte}
+use Rattle.cpu.specs.PackedCpu.{operandResultOf}
+use Rattle.cpu.specs.Operand.{operateOnOperandOf}
+use mathlib.Core.Path.{_∙_, _≡_, ap, sym}
+use native.Mathlib.Omega.{arith}
+use borrow.Author.Needs.{needs}
+use Rattle.cpu.proofs.operand.operate_on_operand.Statement.{statement}
+use Rattle.cpu.proofs.operand.operate_on_operand.Tie as tie
+
+operand-of-requires : tie.Need-operand-of-requires
+operand-of-requires c κs = search needs
+
+enum-known-b : tie.Need-enum-known-b
+enum-known-b c = search needs
+
+enum-told : tie.Need-enum-told
+enum-told c = search needs
+
+stopped-requires : tie.Need-stopped-requires
+stopped-requires c κs = search needs
+
+returns : tie.Need-returns
+unfolding operateOnOperandOf
+returns c =
+    rw (
+      sym (c .before .before .before .operand-of .ensures) ∙ ap (operandResultOf _) (c .before .enum-told .given .1),
+      ← c .stopped .ensures,
+    )
+
+data-register-requires : tie.Need-data-register-requires
+data-register-requires c κs = search needs
+
+enum-known-access : tie.Need-enum-known-access
+enum-known-access c = search needs
+
+operated-requires : tie.Need-operated-requires
+operated-requires c κs = search needs
+
+enum-told-2 : tie.Need-enum-told-2
+enum-told-2 c = search needs
+
+register-requires : tie.Need-register-requires
+register-requires c κs = search needs
+
+cast-t15 : tie.Need-cast-t15
+cast-t15 c = search needs
+
+cast-t16 : tie.Need-cast-t16
+cast-t16 c = search needs
+
+ended-requires : tie.Need-ended-requires
+ended-requires c κs = search needs
+
+returns-2 : tie.Need-returns-2
+unfolding operateOnOperandOf
+returns-2 c =
+    rw (
+      sym (c .before .before .before .before .before .before .before .before .operand-of .ensures) ∙ ap (operandResultOf _) (c .before .before .before .before .before .before .b .given .1),
+      c .before .before .access .given .1,
+      ← c .before .before .before .before .data-register .ensures .0,
+      ← c .operated .ensures,
+    )
+
+returns-3 : tie.Need-returns-3
+unfolding operateOnOperandOf
+returns-3 c =
+    let e : c .before .before .register .result % 256 ≡ c .before .before .register .result = omega (arith, c .before .before .register .ok) in
+    rw (
+      sym (c .before .before .before .before .before .before .before .before .before .operand-of .ensures) ∙ ap (operandResultOf _) (c .before .before .before .before .before .before .before .b .given .1),
+      c .before .before .before .enum-told2 .given .1,
+      ← c .before .before .before .before .before .data-register .ensures .0,
+      ← c .before .before .register .ensures,
+      ← stored-byte e (c .ended .ensures),
+    )
+
+pub operate-on-operand-spec : {M : Type 1} → statement M
+operate-on-operand-spec =
+    tie.close
+    (tie.spec
+    operand-of-requires
+    enum-known-b
+    enum-told
+    stopped-requires
+    returns
+    data-register-requires
+    enum-known-access
+    operated-requires
+    enum-told-2
+    register-requires
+    cast-t15
+    cast-t16
+    ended-requires
+    returns-2
+    returns-3)

@@ -1,0 +1,75 @@
+use Rattle.cpu.specs.Address.{ifFetched}
+use Rattle.cpu.specs.Psw.{maskedOf}
+use mathlib.Core.Path.{_∙_, sym}
+use borrow.Author.Needs.{needs}
+use Rattle.cpu.proofs.psw.preset_psu.Statement.{statement}
+use Rattle.cpu.proofs.psw.preset_psu.Tie as tie
+
+address-after-requires : tie.Need-address-after-requires
+address-after-requires c κs = search needs
+
+fetch-requires : tie.Need-fetch-requires
+fetch-requires c κs = search needs
+
+enum-known-mask : tie.Need-enum-known-mask
+enum-known-mask c = search needs
+
+enum-told : tie.Need-enum-told
+enum-told c = search needs
+
+stopped-requires : tie.Need-stopped-requires
+stopped-requires c κs = search needs
+
+returns : tie.Need-returns
+unfolding maskedOf ifFetched
+returns c =
+    rw (
+      ← c .before .before .before .before .address-after .ensures,
+      sym (c .before .before .before .fetch .ensures) ∙ c .before .enum-told .given .1,
+      ← c .stopped .ensures,
+    )
+
+psu-requires : tie.Need-psu-requires
+psu-requires c κs = search needs
+
+stored-psu-requires : tie.Need-stored-psu-requires
+stored-psu-requires c κs = search needs
+
+with-psu-requires : tie.Need-with-psu-requires
+with-psu-requires c κs = search needs
+
+advanced-requires : tie.Need-advanced-requires
+advanced-requires c κs = search needs
+
+going-requires : tie.Need-going-requires
+going-requires c κs = search needs
+
+returns-2 : tie.Need-returns-2
+unfolding maskedOf ifFetched
+returns-2 c =
+    rw (
+      ← c .before .before .before .before .before .before .before .before .before .address-after .ensures,
+      sym (c .before .before .before .before .before .before .before .before .fetch .ensures) ∙ c .before .before .before .before .before .before .mask .given .1,
+      ← c .before .before .before .before .psu .ensures,
+      ← c .before .before .before .stored-psu .ensures,
+      ← c .before .before .with-psu .ensures,
+      ← c .before .advanced .ensures,
+      ← c .going .ensures,
+    )
+
+pub preset-psu-spec : {M : Type 1} → statement M
+preset-psu-spec =
+    tie.close
+    (tie.spec
+    address-after-requires
+    fetch-requires
+    enum-known-mask
+    enum-told
+    stopped-requires
+    returns
+    psu-requires
+    stored-psu-requires
+    with-psu-requires
+    advanced-requires
+    going-requires
+    returns-2)

@@ -1,0 +1,80 @@
+use Rattle.cpu.specs.Address.{ifFetched}
+use Rattle.cpu.specs.Psw.{maskedOf, testedOf}
+use mathlib.Core.Path.{_∙_, sym}
+use borrow.Author.Needs.{needs}
+use Rattle.cpu.proofs.psw.tested.Statement.{statement}
+use Rattle.cpu.proofs.psw.tested.Tie as tie
+
+address-after-requires : tie.Need-address-after-requires
+address-after-requires c κs = search needs
+
+fetch-requires : tie.Need-fetch-requires
+fetch-requires c κs = search needs
+
+enum-known-mask : tie.Need-enum-known-mask
+enum-known-mask c = search needs
+
+enum-told : tie.Need-enum-told
+enum-told c = search needs
+
+stopped-requires : tie.Need-stopped-requires
+stopped-requires c κs = search needs
+
+returns : tie.Need-returns
+unfolding testedOf maskedOf ifFetched
+returns c =
+    rw (
+      ← c .before .before .before .before .address-after .ensures,
+      sym (c .before .before .before .fetch .ensures) ∙ c .before .enum-told .given .1,
+      ← c .stopped .ensures,
+    )
+
+test-cc-requires : tie.Need-test-cc-requires
+test-cc-requires c κs = search needs
+
+psl-requires : tie.Need-psl-requires
+psl-requires c κs = search needs
+
+with-cc-requires : tie.Need-with-cc-requires
+with-cc-requires c κs = search needs
+
+with-psl-in-bank-requires : tie.Need-with-psl-in-bank-requires
+with-psl-in-bank-requires c κs = search needs
+
+advanced-requires : tie.Need-advanced-requires
+advanced-requires c κs = search needs
+
+going-requires : tie.Need-going-requires
+going-requires c κs = search needs
+
+returns-2 : tie.Need-returns-2
+unfolding testedOf maskedOf ifFetched
+returns-2 c =
+    rw (
+      ← c .before .before .before .before .before .before .before .before .before .before .address-after .ensures,
+      sym (c .before .before .before .before .before .before .before .before .before .fetch .ensures) ∙ c .before .before .before .before .before .before .before .mask .given .1,
+      ← c .before .before .before .before .before .test-cc .ensures .0,
+      ← c .before .before .before .before .psl .ensures,
+      ← c .before .before .before .with-cc .ensures .0,
+      ← c .before .before .with-psl-in-bank .ensures,
+      ← c .before .advanced .ensures,
+      ← c .going .ensures,
+    )
+
+pub tested-spec : {M : Type 1} → statement M
+tested-spec =
+    tie.close
+    (tie.spec
+    address-after-requires
+    fetch-requires
+    enum-known-mask
+    enum-told
+    stopped-requires
+    returns
+    test-cc-requires
+    psl-requires
+    with-cc-requires
+    with-psl-in-bank-requires
+    advanced-requires
+    going-requires
+    returns-2)

@@ -1,0 +1,28 @@
+ghost use mathlib.Core.Path.{_≡_};
+ghost use Rattle.cpu.specs.Cpu.{freshCpu};
+use common::Address;
+
+// The machine's registers, as they are kept between runs (document 01's machine).
+// Registers: R0, R1 to R3 of bank 0, R1 to R3 of bank 1. PSU is stored without Sense.
+pub struct Cpu {
+    pub counter: u16,
+    pub registers: [u8; 7],
+    pub psu: u8,
+    pub psl: u8,
+    pub returns: [u16; 8],
+}
+
+impl Cpu {
+    // Before its first instruction, at `start`.
+    pub fn fresh(start: Address) -> Cpu
+        ensures { λ c. ⌜ c ≡ freshCpu start ⌝ }
+    {
+        Cpu {
+            counter: start.0,
+            registers: [0; 7],
+            psu: 0,
+            psl: 0,
+            returns: [0; 8],
+        }
+    }
+}

@@ -1,0 +1,85 @@
+-- Laws that the checker has shown: every state has its 34 bytes, every 34 bytes are a state, and each way leads back.
+use mathlib.Core.Path.{_≡_, refl, sym, ap, _∙_}
+use mathlib.Core.List.{List, [], _∷_}
+use Prim.Native.Nat.{ℕ}
+use native.Mathlib.Omega.{arith}
+use lib.ListN.{getD, length}
+use lib.Seq.{take-all}
+use Rattle.cpu.specs.CpuInvariantLaws.{CpuShaped}
+use Rattle.cpu.specs.State.{withCpu}
+use Rattle.cpu.specs.declared.state.State.{State}
+use Rattle.slices.specs.NumberLaws.{u16-back, u16-again, u16s-again}
+use Rattle.slices.specs.PieceLaws.{list-tabulated, part-tabulated, parts-concat}
+use Rattle.slices.specs.Slices.{Bytes, concat, tabulate}
+use Rattle.encoding.specs.StateEncoding.{stateLength, stateBytes, stateAt, cpuAt, registersAt, returnsAt}
+
+-- a state has seven registers and eight return addresses: in the code by their types
+abbrev pub Shaped : State → Type 0
+Shaped s = CpuShaped (s .cpu)
+
+-- what bytes hold has these lengths
+pub state-shaped : (l : List ℕ) → Shaped (stateAt l)
+unfolding stateAt cpuAt registersAt returnsAt
+state-shaped l = record { registers = refl; returns = refl }
+
+-- a state with its registers and return addresses written out
+abbrev stateBy : State → List ℕ → List ℕ → State
+stateBy s registers returns =
+    withCpu (record { counter = s .cpu .counter; registers = registers; psu = s .cpu .psu; psl = s .cpu .psl; returns = returns }) s
+
+abbrev spelled : State → State
+spelled s = stateBy s (tabulate 7 (λ i. getD (s .cpu .registers) i 0)) (tabulate 8 (λ i. getD (s .cpu .returns) i 0))
+
+spelled-same : (s : State) → Shaped s → s ≡ spelled s
+spelled-same s h =
+    λ j. stateBy s (list-tabulated 7 (s .cpu .registers) (h .registers) j) (list-tabulated 8 (s .cpu .returns) (h .returns) j)
+
+spelled-length : (s : State) → length (stateBytes (spelled s)) ≡ stateLength
+unfolding stateBytes
+spelled-length s = refl
+
+pub state-length : (s : State) → Shaped s → length (stateBytes s) ≡ stateLength
+state-length s h = ap (λ (z : State). length (stateBytes z)) (spelled-same s h) ∙ spelled-length s
+
+spelled-back : (s : State) → stateAt (stateBytes (spelled s)) ≡ spelled s
+unfolding stateBytes stateAt cpuAt registersAt returnsAt
+spelled-back s =
+    λ j.
+    record {
+      cpu =
+          record {
+            counter = u16-back (s .cpu .counter) [] j;
+            registers = tabulate 7 (λ i. getD (s .cpu .registers) i 0);
+            psu = s .cpu .psu;
+            psl = s .cpu .psl;
+            returns = tabulate 8 (λ i. u16-back (getD (s .cpu .returns) i 0) [] j);
+          };
+      status = s .status;
+      filled = u16-back (s .filled) [] j;
+      read = u16-back (s .read) [] j;
+      written = u16-back (s .written) [] j;
+    }
+
+-- a state's bytes hold that state
+pub state-decoded : (s : State) → Shaped s → stateAt (stateBytes s) ≡ s
+state-decoded s h = ap (λ (t : State). stateAt (stateBytes t)) (spelled-same s h) ∙ spelled-back s ∙ sym (spelled-same s h)
+
+-- so many bytes are those of the state that they hold
+pub state-encoded : (l : List ℕ) → length l ≡ stateLength → Bytes l → stateBytes (stateAt l) ≡ l
+unfolding stateBytes stateAt cpuAt registersAt returnsAt
+state-encoded l h small =
+    (λ j.
+    concat (
+    u16-again l small 0 (omega arith) j
+    ∷ part-tabulated 7 l 2 (omega arith) j
+    ∷ part-tabulated 1 l 9 (omega arith) j
+    ∷ part-tabulated 1 l 10 (omega arith) j
+    ∷ u16s-again l small 8 11 (omega arith) j
+    ∷ part-tabulated 1 l 27 (omega arith) j
+    ∷ u16-again l small 28 (omega arith) j
+    ∷ u16-again l small 30 (omega arith) j
+    ∷ u16-again l small 32 (omega arith) j
+    ∷ []
+    ))
+    ∙ parts-concat l 0 (2 ∷ 7 ∷ 1 ∷ 1 ∷ 16 ∷ 1 ∷ 2 ∷ 2 ∷ 2 ∷ [])
+    ∙ take-all stateLength l (omega arith)

@@ -1,0 +1,48 @@
+use denote.Ref.{now}
+use mathlib.Core.Path.{refl}
+use Rattle.supervisor.specs.Calls.{run}
+use Rattle.host.proofs.HostCallLaws.{other-length, call-stored}
+use borrow.Author.Needs.{needs}
+use Rattle.host.proofs.host_calls.pf_run.Statement.{statement}
+use Rattle.host.proofs.host_calls.pf_run.Tie as tie
+
+answer-requires : tie.Need-answer-requires
+answer-requires c κs = search needs
+
+returns : tie.Need-returns
+returns c = other-length 0 (run (c .before .before .before .before .args .rounds)) (now (c .before .before .before .before .args .table)) (now (c .before .before .before .before .args .memory)) _ (c .before .if1 .taken) (c .answer .ensures)
+
+decode-table-requires : tie.Need-decode-table-requires
+decode-table-requires c κs = search needs
+
+run-requires : tie.Need-run-requires
+run-requires c κs = search needs
+
+store-accepted-requires : tie.Need-store-accepted-requires
+store-accepted-requires c κs = search needs
+
+answer-requires-2 : tie.Need-answer-requires-2
+answer-requires-2 c κs = search needs
+
+same-length : tie.Need-same-length
+same-length c = search needs
+
+same-length-2 : tie.Need-same-length-2
+same-length-2 c = search needs
+
+returns-2 : tie.Need-returns-2
+returns-2 c = call-stored (run (c .before .before .before .before .before .before .before .before .before .before .before .before .before .before .before .args .rounds)) (now (c .before .before .before .before .before .before .before .before .before .before .before .before .before .before .before .args .table)) (now (c .before .before .before .before .before .before .before .before .before .before .before .before .before .before .before .args .memory)) (c .before .before .before .before .before .before .before .before .before .before .decode-table .result) (c .before .before .before .before .before .before .before .before .run .result .refusal) (c .before .before .before .before .before .before .before .before .run .result .table) _ (c .before .before .before .before .before .before .before .before .before .before .before .before .if1 .left) (c .before .before .before .before .before .before .before .before .before .before .decode-table .ensures) (c .before .before .before .before .before .before .before .before .run .ensures) 0 _ _ refl (c .answer2 .ensures) (c .before .before .before .store-accepted .ensures)
+
+pub pf-run-spec : {M : Type 1} → statement M
+pf-run-spec =
+    tie.close
+    (tie.spec
+    answer-requires
+    returns
+    decode-table-requires
+    run-requires
+    store-accepted-requires
+    answer-requires-2
+    same-length
+    same-length-2
+    returns-2)

@@ -1,0 +1,110 @@
+-- Definitions that must be believed: what a host's calls answer, and what they leave in the buffers that the host lends. A table is its
+-- bytes (TableEncoding); what a call does to it is crate supervisor's `refusal` and `afterCall`.
+use mathlib.Core.Bool.{not}
+use mathlib.Core.List.{List, [], _∷_, _++_}
+use Prim.Native.Nat.{ℕ, _+_, _*_}
+use lib.Dec.{eqb, ltb}
+use lib.ListN.{length, drop}
+use Rattle.common.specs.Choice.{if_then_else_}
+use Rattle.common.specs.Refusals.{_gives_, refusalBy}
+use Rattle.supervisor.specs.Calls.{Call, report, refusal, afterCall, drainedBuffer, queryRefusal, reportOf}
+use Rattle.supervisor.specs.System.{System, system}
+use Rattle.supervisor.specs.Table.{newRefusal, newTable}
+use Rattle.supervisor.specs.declared.reported.Report.{Report}
+use Rattle.supervisor.specs.declared.table.Table.{Table}
+use Rattle.slices.specs.Numbers.{u16Bytes}
+use Rattle.slices.specs.Slices.{concat}
+use Rattle.host.specs.TableEncoding.{tableAt, tableBytes, tableLength}
+
+-- an answer: the refusal, 0 for none, and how many bytes were handed over, 0 where none are
+abbrev pub answerOf : ℕ → ℕ → ℕ
+answerOf refusal count = refusal * 65536 + count
+
+-- the table and the memory that a host lends
+abbrev pub lentSystem : List ℕ → List ℕ → System
+lentSystem table memory = system (tableAt table) memory
+
+-- the table's bytes after a call: those of the table that it came to, or left as they are by a refusal
+unfoldable pub bytesAfter : ℕ → Table → List ℕ → List ℕ
+bytesAfter refusal t bytes = if eqb refusal 0 then tableBytes t else bytes
+
+-- ---- a new table
+
+-- what a call answers, and what its buffer holds afterwards
+pub record Answered : Type 0 where
+  pub answer : ℕ
+  pub buffer : List ℕ
+
+abbrev pub answered : ℕ → List ℕ → Answered
+answered answer buffer = record { answer = answer; buffer = buffer }
+
+-- a refusal leaves the buffer: a host is given no all-zero table
+unfoldable pub hostNew : ℕ → List ℕ → Answered
+hostNew size table =
+    if eqb (length table) tableLength
+    then answered (answerOf (newRefusal size) 0) (bytesAfter (newRefusal size) (newTable size) table)
+    else answered (answerOf 1 0) table
+
+-- ---- calls with a table and a memory
+
+-- what a host holds between its calls: the table's bytes and the memory
+pub record Host : Type 0 where
+  pub table : List ℕ
+  pub memory : List ℕ
+
+abbrev pub host : List ℕ → List ℕ → Host
+host table memory = record { table = table; memory = memory }
+
+-- the table and the memory that these are
+abbrev pub systemOf : Host → System
+systemOf h = lentSystem (h .table) (h .memory)
+
+-- a buffer of another length is no sound table: 1, and everything is left
+unfoldable pub hostAfterCall : Call → Host → Host
+hostAfterCall c h =
+    if eqb (length (h .table)) tableLength
+    then host (bytesAfter (refusal c (systemOf h)) (afterCall c (systemOf h) .table) (h .table)) (afterCall c (systemOf h) .memory)
+    else h
+
+-- what a call answers that hands over so many bytes, and what table and memory hold afterwards
+pub record Hosted : Type 0 where
+  pub answer : ℕ
+  pub left : Host
+
+abbrev pub hosted : ℕ → List ℕ → List ℕ → Hosted
+hosted answer table memory = record { answer = answer; left = host table memory }
+
+unfoldable pub hostOutcome : Call → ℕ → Host → Hosted
+hostOutcome c count h =
+    record {
+      answer = if eqb (length (h .table)) tableLength then answerOf (refusal c (systemOf h)) count else answerOf 1 0;
+      left = hostAfterCall c h;
+    }
+
+-- the lent buffer after a drain
+unfoldable pub hostDrained : List ℕ → List ℕ → ℕ → List ℕ → List ℕ
+hostDrained table memory k buffer = if eqb (length table) tableLength then drainedBuffer (lentSystem table memory) k buffer else buffer
+
+-- ---- a report
+
+-- status, counter, seven registers, PSU with Sense, PSL
+unfoldable pub reportBytes : Report → List ℕ
+reportBytes r = concat ((r .status ∷ []) ∷ u16Bytes (r .counter) ∷ r .registers ∷ (r .psu ∷ r .psl ∷ []) ∷ [])
+
+abbrev pub reportLength : ℕ
+reportLength = 12
+
+unfoldable pub hostReportRefusal : List ℕ → ℕ → ℕ → ℕ
+hostReportRefusal table k room =
+    refusalBy
+    (not (eqb (length table) tableLength) gives 1
+    ∷ not (eqb (queryRefusal (report k) (tableAt table)) 0) gives queryRefusal (report k) (tableAt table)
+    ∷ ltb room reportLength gives 16
+    ∷ [])
+
+-- the report at the buffer's front, the rest left
+unfoldable pub hostReport : List ℕ → ℕ → List ℕ → Answered
+hostReport table k buffer =
+    answered
+    (answerOf (hostReportRefusal table k (length buffer)) 0)
+    (if eqb (hostReportRefusal table k (length buffer)) 0 then reportBytes (reportOf (tableAt table) k) ++ drop reportLength buffer else buffer)

@@ -1,0 +1,143 @@
+-- Laws that the checker has shown: demand 3 for hosts, for any bytes that hold a sound table, any memory of its length and any list.
+-- The statement is `HostIsolation` in HostIsolation.antt; `host-isolation`, at the end of this file, proves it. Nothing is assumed.
+use mathlib.Core.Bool.{Bool, true, false}
+use mathlib.Core.List.{List, [], _∷_}
+use mathlib.Core.Path.{_≡_, refl, sym, ap, _∙_}
+use Prim.Native.Nat.{ℕ, zero, suc, _<_}
+use native.Mathlib.Omega.{arith}
+use borrow.Author.Tests.{eq-eqb}
+use lib.Dec.{eqb}
+use lib.ListN.{length, getD, set, length-set}
+use Rattle.common.specs.Choice.{if_then_else_}
+use Rattle.common.specs.Repetition.{times}
+use Rattle.cpu.specs.MachineLaws.{times-shaped}
+use Rattle.supervisor.specs.Calls.{Change, load, unload, feed, drain, Query, Call, change, run, query, refusal, patchOf, afterAccepted, afterCall}
+use Rattle.supervisor.specs.Events.{Event, call, write, afterEvent, afterEvents}
+use Rattle.supervisor.specs.System.{System, system, slotOf, patched, machineIn}
+use Rattle.supervisor.specs.Table.{noSlot, slotAt, withSlot}
+use Rattle.supervisor.specs.Running.{afterQuantum, slotQuantum, slotQuanta, afterRun}
+use Rattle.supervisor.specs.Sound.{tableSound}
+use Rattle.supervisor.specs.IsolationTheorem.{isolation}
+use Rattle.supervisor.specs.declared.table.Slot.{Slot}
+use Rattle.supervisor.specs.declared.table.Table.{Table}
+use Rattle.host.specs.HostCalls.{bytesAfter, Host, systemOf, hostAfterCall}
+use Rattle.host.specs.HostIsolation.{hostAfterEvent, hostAfterEvents, HostIsolation}
+use Rattle.host.specs.TableEncoding.{tableAt, tableBytes, tableLength}
+use Rattle.encoding.specs.StateRoundTripLaws.{Shaped}
+use Rattle.host.specs.TableRoundTripLaws.{AllShaped, TableShaped, table-decoded, table-length, table-shaped}
+use Rattle.supervisor.specs.CallDefinitions.{change-definitions}
+
+-- ---- every call keeps the lengths that a table's bytes need
+
+shaped-at : (ss : List Slot) (k : ℕ) → AllShaped ss → k < length ss → Shaped (getD ss k noSlot .state)
+shaped-at [] k h q = absurd (omega arith)
+shaped-at (s ∷ ss) zero h q = h .0
+shaped-at (s ∷ ss) (suc k) h q = shaped-at ss k (h .1) (omega arith)
+
+shaped-set : (ss : List Slot) (k : ℕ) (s : Slot) → AllShaped ss → (k < length ss → Shaped (s .state)) → AllShaped (set ss k s)
+shaped-set [] k s h q = tt
+shaped-set (x ∷ xs) zero s h q = (q (omega arith), h .1)
+shaped-set (x ∷ xs) (suc k) s h q = (h .0, shaped-set xs k s (h .1) (λ z. q (omega arith)))
+
+module _ (t : Table) (h : TableShaped t) (k : ℕ) where
+  at-slot : k < length (t .slots) → Shaped (slotAt t k .state)
+  unfolding slotAt
+  at-slot q = shaped-at (t .slots) k (h .all) q
+
+  with-shaped : (s : Slot) → (k < length (t .slots) → Shaped (s .state)) → TableShaped (withSlot t k s)
+  unfolding withSlot
+  with-shaped s q = record { eight = length-set (t .slots) k s ∙ h .eight; all = shaped-set (t .slots) k s (h .all) q }
+
+-- a machine that stepped
+after-quantum-shaped : (s : Slot) (memory : List ℕ) → Shaped (s .state) → Shaped (afterQuantum s memory .state)
+unfolding machineIn
+after-quantum-shaped s memory h = times-shaped (s .partition .quantum) (machineIn s memory) h
+
+quantum-shaped : (k : ℕ) (x : System) → TableShaped (x .table) → TableShaped (slotQuantum k x .table)
+unfolding slotQuantum patched
+quantum-shaped k x h = with-shaped (x .table) h k _ (λ q. after-quantum-shaped (slotOf x k) (x .memory) (at-slot (x .table) h k q))
+
+quanta-shaped : (n : ℕ) (x : System) → TableShaped (x .table) → TableShaped (slotQuanta n x .table)
+unfolding slotQuanta
+quanta-shaped zero x h = h
+quanta-shaped (suc n) x h = quantum-shaped n (slotQuanta n x) (quanta-shaped n x h)
+
+rounds-shaped : (n : ℕ) (x : System) → TableShaped (x .table) → TableShaped (times n (slotQuanta 8) x .table)
+unfolding times
+rounds-shaped zero x h = h
+rounds-shaped (suc n) x h = quanta-shaped 8 (times n (slotQuanta 8) x) (rounds-shaped n x h)
+
+patch-shaped : (c : Change) (s : Slot) → Shaped (s .state) → Shaped (patchOf c s .slot .state)
+unfolding change-definitions
+patch-shaped (load location file) s h = record { registers = refl; returns = refl }
+patch-shaped unload s h = record { registers = refl; returns = refl }
+patch-shaped (feed bytes) s h = h
+patch-shaped (drain room) s h = h
+
+accepted-shaped : (c : Call) (x : System) → TableShaped (x .table) → TableShaped (afterAccepted c x .table)
+unfolding afterAccepted patched afterRun
+accepted-shaped (change k c) x h = with-shaped (x .table) h k _ (λ q. patch-shaped c (slotOf x k) (at-slot (x .table) h k q))
+accepted-shaped (run n) x h = rounds-shaped n x h
+accepted-shaped (query q) x h = h
+
+-- ---- one event
+
+-- a host holds that table and that memory
+record HostHolds (h : Host) (y : System) : Type 0 where
+  same : systemOf h ≡ y
+  whole : length (h .table) ≡ tableLength
+
+-- by whether the call is accepted
+call-follows : (c : Call) (h : Host) → length (h .table) ≡ tableLength → HostHolds (hostAfterCall c h) (afterCall c (systemOf h))
+unfolding hostAfterCall bytesAfter afterCall if_then_else_
+call-follows c h whole = rw (eq-eqb (length (h .table)) tableLength whole) (go (eqb (refusal c (systemOf h)) 0))
+  where
+    x : System
+    x = systemOf h
+
+    go : (b : Bool)
+        → HostHolds (record { table = if b then tableBytes ((if b then afterAccepted c x else x) .table) else h .table; memory = (if b then afterAccepted c x else x) .memory })
+        (if b then afterAccepted c x else x)
+    go true =
+        let t = accepted-shaped c x (table-shaped (h .table)) in
+        record { same = ap (λ (z : Table). system z (afterAccepted c x .memory)) (table-decoded (afterAccepted c x .table) t); whole = table-length (afterAccepted c x .table) t }
+    go false = record { same = refl; whole = whole }
+
+-- a query changes nothing
+query-leaves : (q : Query) (x : System) → afterCall (query q) x ≡ x
+unfolding afterCall afterAccepted if_then_else_
+query-leaves q x = go (eqb (refusal (query q) x) 0)
+  where
+    go : (b : Bool) → (if b then x else x) ≡ x
+    go true = refl
+    go false = refl
+
+event-follows : (e : Event) (h : Host) → length (h .table) ≡ tableLength → HostHolds (hostAfterEvent e h) (afterEvent e (systemOf h))
+unfolding hostAfterEvent afterEvent
+event-follows (call (change k c)) h whole = call-follows (change k c) h whole
+event-follows (call (run n)) h whole = call-follows (run n) h whole
+event-follows (call (query q)) h whole = record { same = sym (query-leaves q (systemOf h)); whole = whole }
+event-follows (write i b) h whole = record { same = refl; whole = whole }
+
+-- ---- the list
+
+all-follow : (list : List Event) (h : Host) → length (h .table) ≡ tableLength → HostHolds (hostAfterEvents list h) (afterEvents list (systemOf h))
+unfolding hostAfterEvents afterEvents
+all-follow [] h whole = record { same = refl; whole = whole }
+all-follow (e ∷ rest) h whole =
+    let f = event-follows e h whole in
+    let r = all-follow rest (hostAfterEvent e h) (f .whole) in
+    record { same = r .same ∙ ap (afterEvents rest) (f .same); whole = r .whole }
+
+-- Demand 3 for hosts.
+pub host-isolation : (h : Host) (list : List Event) → length (h .table) ≡ tableLength → tableSound (tableAt (h .table)) ≡ true
+    → length (h .memory) ≡ tableAt (h .table) .size → HostIsolation h list
+host-isolation h list whole ok fits =
+    let f = all-follow list h whole in
+    let d = isolation (systemOf h) list ok fits in
+    record {
+      follows = f .same;
+      whole = f .whole;
+      demand = d;
+      machine = λ k q m l. ap (λ (y : System). machineIn (slotOf y k) (y .memory)) (f .same) ∙ d .machine k q m l;
+    }

@@ -1,0 +1,184 @@
+// Calls on a table that a host lends as its bytes: each decodes the table, makes the call by value, and encodes only what was accepted.
+ghost use mathlib.Core.Path.{_≡_};
+ghost use Prim.Native.Nat.{min};
+ghost use lib.ListN.{length};
+ghost use Rattle.supervisor.specs.Calls as calls;
+ghost use Rattle.supervisor.specs.Calls.{drainedCount};
+ghost use Rattle.host.specs.TableEncoding.{tableLength};
+ghost use Rattle.host.specs.HostCalls.{answerOf, answered, bytesAfter, host, hosted, hostDrained, hostNew, hostOutcome, hostReport, lentSystem, reportBytes};
+use crate::table_encoding::TABLE_LENGTH;
+use crate::table_encoding::decode_table;
+use crate::table_encoding::encode_table;
+use common::Location;
+use supervisor::Report;
+use supervisor::Table;
+
+// How many bytes a report has.
+const REPORT_LENGTH: usize = 12;
+
+// A refusal, 0 for none, and a count, in one number.
+pub(crate) fn answer(refusal: u8, count: u16) -> u32
+    ensures { λ r. ⌜ r ≡ answerOf refusal count ⌝ }
+{
+    refusal as u32 * 65536 + count as u32
+}
+
+// Writes the table's bytes anew where the call was accepted.
+fn store_accepted(bytes: &mut [u8], refusal: u8, table: Table)
+    requires { ⌜ length (now bytes) ≡ tableLength ⌝ }
+    ensures { λ _. ⌜ now (bytes .exit) ≡ bytesAfter refusal table (now (bytes .entry)) ⌝ }
+{
+    if refusal == 0 {
+        encode_table(bytes, table);
+    }
+}
+
+// A new table for a memory of that length. A refusal leaves the buffer.
+#[no_mangle]
+pub extern "C" fn pf_new(table: &mut [u8], length: usize) -> u32
+    ensures { λ r. ⌜ answered r (now (table .exit)) ≡ hostNew length (now (table .entry)) ⌝ }
+{
+    if table.len() != TABLE_LENGTH {
+        return answer(1, 0);
+    }
+    let done = Table::new(length);
+    let refusal = done.refusal;
+    let fresh = done.table;
+    store_accepted(table, refusal, fresh);
+    answer(refusal, 0)
+}
+
+// The place of that number. Every place from the longest memory's length on is refused alike, so one stands for all of them.
+fn location_at(location: usize) -> Location
+    ensures { λ l. ⌜ l .0 ≡ min location 65536 ⌝ }
+{
+    if location < Table::MAX_MEMORY {
+        Location(location as u32)
+    } else {
+        Location(Table::MAX_MEMORY as u32)
+    }
+}
+
+#[no_mangle]
+pub extern "C" fn pf_load(
+    table: &mut [u8],
+    memory: &mut [u8],
+    slot: usize,
+    location: usize,
+    file: &[u8],
+) -> u32
+    ensures { λ r. ⌜ hosted r (now (table .exit)) (now (memory .exit)) ≡ hostOutcome (calls.change slot (calls.load (record { 0 = location }) (now (file .entry)))) 0 (host (now (table .entry)) (now (memory .entry))) ⌝ }
+{
+    if table.len() != TABLE_LENGTH {
+        return answer(1, 0);
+    }
+    let before = decode_table(&table[..]);
+    let done = supervisor::load(before, memory, slot, location_at(location), file);
+    let refusal = done.refusal;
+    let after = done.table;
+    store_accepted(table, refusal, after);
+    answer(refusal, 0)
+}
+
+#[no_mangle]
+pub extern "C" fn pf_unload(table: &mut [u8], memory: &mut [u8], slot: usize) -> u32
+    ensures { λ r. ⌜ hosted r (now (table .exit)) (now (memory .exit)) ≡ hostOutcome (calls.change slot calls.unload) 0 (host (now (table .entry)) (now (memory .entry))) ⌝ }
+{
+    if table.len() != TABLE_LENGTH {
+        return answer(1, 0);
+    }
+    let before = decode_table(&table[..]);
+    let done = supervisor::unload(before, memory, slot);
+    let refusal = done.refusal;
+    let after = done.table;
+    store_accepted(table, refusal, after);
+    answer(refusal, 0)
+}
+
+#[no_mangle]
+pub extern "C" fn pf_feed(table: &mut [u8], memory: &mut [u8], slot: usize, input: &[u8]) -> u32
+    ensures { λ r. ⌜ hosted r (now (table .exit)) (now (memory .exit)) ≡ hostOutcome (calls.change slot (calls.feed (now (input .entry)))) 0 (host (now (table .entry)) (now (memory .entry))) ⌝ }
+{
+    if table.len() != TABLE_LENGTH {
+        return answer(1, 0);
+    }
+    let before = decode_table(&table[..]);
+    let done = supervisor::feed(before, memory, slot, input);
+    let refusal = done.refusal;
+    let after = done.table;
+    store_accepted(table, refusal, after);
+    answer(refusal, 0)
+}
+
+// The count is how many bytes were drained to the buffer's front.
+#[no_mangle]
+pub extern "C" fn pf_drain(table: &mut [u8], memory: &[u8], slot: usize, buffer: &mut [u8]) -> u32
+    ensures { λ r. ⌜ hosted r (now (table .exit)) (now (memory .entry)) ≡ hostOutcome (calls.change slot (calls.drain (length (now (buffer .entry))))) (drainedCount (lentSystem (now (table .entry)) (now (memory .entry))) slot (length (now (buffer .entry)))) (host (now (table .entry)) (now (memory .entry))) ⌝ }
+    ensures { λ _. ⌜ now (buffer .exit) ≡ hostDrained (now (table .entry)) (now (memory .entry)) slot (now (buffer .entry)) ⌝ }
+{
+    if table.len() != TABLE_LENGTH {
+        return answer(1, 0);
+    }
+    let before = decode_table(&table[..]);
+    let done = supervisor::drain(before, memory, slot, buffer);
+    let refusal = done.refusal;
+    let after = done.table;
+    store_accepted(table, refusal, after);
+    answer(refusal, done.count as u16)
+}
+
+#[no_mangle]
+pub extern "C" fn pf_run(table: &mut [u8], memory: &mut [u8], rounds: u16) -> u32
+    ensures { λ r. ⌜ hosted r (now (table .exit)) (now (memory .exit)) ≡ hostOutcome (calls.run rounds) 0 (host (now (table .entry)) (now (memory .entry))) ⌝ }
+{
+    if table.len() != TABLE_LENGTH {
+        return answer(1, 0);
+    }
+    let before = decode_table(&table[..]);
+    let done = supervisor::run(before, memory, rounds);
+    let refusal = done.refusal;
+    let after = done.table;
+    store_accepted(table, refusal, after);
+    answer(refusal, 0)
+}
+
+fn report_bytes(r: Report) -> [u8; REPORT_LENGTH]
+    ensures { λ l. ⌜ l ≡ reportBytes r ⌝ }
+{
+    let registers = r.registers;
+    [
+        r.status,
+        (r.counter / 256) as u8,
+        (r.counter % 256) as u8,
+        registers[0],
+        registers[1],
+        registers[2],
+        registers[3],
+        registers[4],
+        registers[5],
+        registers[6],
+        r.psu,
+        r.psl,
+    ]
+}
+
+// The report to the buffer's front.
+#[no_mangle]
+pub extern "C" fn pf_report(table: &[u8], slot: usize, report: &mut [u8]) -> u32
+    ensures { λ r. ⌜ answered r (now (report .exit)) ≡ hostReport (now (table .entry)) slot (now (report .entry)) ⌝ }
+{
+    if table.len() != TABLE_LENGTH {
+        return answer(1, 0);
+    }
+    let made = supervisor::report(decode_table(table), slot);
+    let refusal = made.refusal;
+    if refusal != 0 {
+        return answer(refusal, 0);
+    }
+    if report.len() < REPORT_LENGTH {
+        return answer(16, 0);
+    }
+    let bytes = report_bytes(made);
+    slices::copy(report, 0, &bytes);
+    answer(0, 0)
+}

@@ -1,0 +1,46 @@
+use Rattle.lend.specs.AloneLaws.{not-new, new-table, by-draining}
+use Rattle.lend.specs.Lent.{slotOutcome}
+use Rattle.lend.specs.declared.lent.SlotAnswer.{SlotAnswer}
+use Rattle.supervisor.specs.Table.{slotAt, withSlot}
+use mathlib.Core.Path.{_∙_, ap, sym}
+use borrow.Author.Needs.{needs}
+use Rattle.lend.proofs.lent.drain_slot.Statement.{statement}
+use Rattle.lend.proofs.lent.drain_slot.Tie as tie
+
+new-requires : tie.Need-new-requires
+new-requires c κs = search needs
+
+refused-answer-requires : tie.Need-refused-answer-requires
+refused-answer-requires c κs = search needs
+
+returns : tie.Need-returns
+returns c = ap (λ (r : SlotAnswer). slotOutcome r (c .before .before .before .before .before .before .args .buffer .now)) (c .refused-answer .ensures) ∙ not-new (c .before .before .before .before .before .before .args .slot) (c .before .before .before .before .before .before .args .memory .now) (c .before .before .before .before .before .before .args .buffer .now) (λ e. c .before .if1 .taken (c .before .before .before .new .ensures .0 ∙ e))
+
+element-set-from-slot : tie.Need-element-set-from-slot
+element-set-from-slot c = search needs
+
+drain-requires : tie.Need-drain-requires
+drain-requires c κs = search needs
+
+element-copy-out-slot : tie.Need-element-copy-out-slot
+element-copy-out-slot c = search needs
+
+same-length : tie.Need-same-length
+same-length c = search needs
+
+returns-2 : tie.Need-returns-2
+unfolding slotAt withSlot
+returns-2 c = by-draining (c .before .before .before .before .before .before .before .before .before .before .before .before .args .slot) (c .before .before .before .before .before .before .before .before .before .before .before .before .args .memory .now) (c .before .before .before .before .before .before .before .before .before .before .before .before .args .buffer .now) _ (c .before .before .before .before .before .before .before .before .before .new .ensures .1 ∙ new-table _ (sym (c .before .before .before .before .before .before .before .before .before .new .ensures .0) ∙ c .before .before .before .before .before .before .before .if1 .left)) _ _ _ _ (c .before .before .before .before .drain .ensures .0) (c .before .before .before .before .drain .ensures .1 .0) (c .before .before .before .before .drain .ensures .1 .1)
+
+pub drain-slot-spec : {M : Type 1} → statement M
+drain-slot-spec =
+    tie.close
+    (tie.spec
+    new-requires
+    refused-answer-requires
+    returns
+    element-set-from-slot
+    drain-requires
+    element-copy-out-slot
+    same-length
+    returns-2)

@@ -1,0 +1,8 @@
+-- A name for a list of definitions: `unfolding text-definitions` opens all that the text of the bench run is made of. Nothing here
+-- has to be believed.
+use Rattle.listing.specs.Text.{decimalDigits, field, fields, hexByte, hexDigit, hexWord, linesOf, outputLine, refusedLine, reportLine}
+
+-- digits, fields and lines
+unfoldable pub text-definitions : Type 0
+unfolding hexDigit hexByte hexWord decimalDigits field fields refusedLine reportLine outputLine linesOf
+text-definitions = Unit {0}

@@ -1,0 +1,64 @@
+-- Reading goes from record to record: a refusal ends it, and an accepted record leaves it to the next.
+use Prim.Native.Nat.{ℕ}
+use mathlib.Core.List.{List}
+use mathlib.Core.Path.{_≡_, sym, ap, _∙_}
+use Rattle.common.specs.Refusals.{Condition, unless}
+use Rattle.pattern.specs.Frame.{afterRecord}
+use Rattle.pattern.specs.Reader.{noParameters, parametersIn, versionConditions, parametersConditions, codeConditions, inputConditions, endConditions, readOf}
+use Rattle.common.specs.RefusalLaws.{none-unless, unless-none, unless-refused}
+use Rattle.pattern.specs.ReaderLaws.{refused-accepted, accepted-same, version-record}
+use Rattle.pattern.specs.declared.parameters.Parameters.{Parameters}
+use Rattle.pattern.specs.declared.reader.ReadResult.{ReadResult}
+use Rattle.pattern.specs.declared.reader.ReadResult.the-variants.{Accepted, Refused}
+
+-- the reading from a record on, with the parameters that were read before
+abbrev pub onEnd : Parameters → List ℕ → ReadResult
+onEnd v e = unless Refused (endConditions e) (Accepted v)
+
+abbrev pub onInput : Parameters → List ℕ → ReadResult
+onInput v i = unless Refused (inputConditions v i) (onEnd v (afterRecord i))
+
+abbrev pub onCode : Parameters → List ℕ → ReadResult
+onCode v c = unless Refused (codeConditions v c) (onInput v (afterRecord c))
+
+abbrev pub onParameters : List ℕ → ReadResult
+onParameters p = unless Refused (parametersConditions 1 p) (onCode (parametersIn 1 p) (afterRecord p))
+
+module _ (ks : List Condition) (u : Parameters) {r : ReadResult} (answered : r ≡ unless Refused ks (Accepted u)) where
+  -- a refused record
+  pub reading-stops : {n : ℕ} → r ≡ Refused n → (next : ReadResult) → r ≡ unless Refused ks next
+  reading-stops {n} told next = told ∙ sym (unless-refused Refused ks (Accepted u) next (λ e. refused-accepted n (sym e)) (sym answered ∙ told))
+
+  -- an accepted one
+  reading-goes-on : {v : Parameters} → r ≡ Accepted v → (next : ReadResult) → unless Refused ks next ≡ next
+  reading-goes-on told next = none-unless Refused ks next (unless-none Refused ks (Accepted u) refused-accepted (sym answered ∙ told) .0)
+
+  reading-keeps : {v : Parameters} → r ≡ Accepted v → u ≡ v
+  reading-keeps told = accepted-same (unless-none Refused ks (Accepted u) refused-accepted (sym answered ∙ told) .1)
+
+-- each step: the next record's part of the file, what the record answered, and that it was accepted
+pub after-version : (s p : List ℕ) {r : ReadResult} {u : Parameters} → p ≡ afterRecord s → r ≡ unless Refused (versionConditions s) (Accepted noParameters)
+    → r ≡ Accepted u → readOf s ≡ onParameters p
+unfolding readOf
+after-version s p place answered told =
+    let form = version-record s (unless-none Refused (versionConditions s) (Accepted noParameters) refused-accepted (sym answered ∙ told) .0) .form in
+    reading-goes-on (versionConditions s) noParameters answered told _ ∙ rw (form, ← place)
+
+pub after-parameters : (p c : List ℕ) {r : ReadResult} {v : Parameters} → c ≡ afterRecord p → r ≡ unless Refused (parametersConditions 1 p) (Accepted (parametersIn 1 p))
+    → r ≡ Accepted v → onParameters p ≡ onCode v c
+after-parameters p c place answered told =
+    reading-goes-on (parametersConditions 1 p) (parametersIn 1 p) answered told _
+    ∙ ap (λ (l : List ℕ). onCode (parametersIn 1 p) l) (sym place)
+    ∙ ap (λ (w : Parameters). onCode w c) (reading-keeps (parametersConditions 1 p) (parametersIn 1 p) answered told)
+
+module _ (v : Parameters) where
+  pub after-code : (c i : List ℕ) {r : ReadResult} {w : Parameters} → i ≡ afterRecord c → r ≡ unless Refused (codeConditions v c) (Accepted v)
+      → r ≡ Accepted w → onCode v c ≡ onInput v i
+  after-code c i place answered told = reading-goes-on (codeConditions v c) v answered told _ ∙ ap (onInput v) (sym place)
+
+  pub after-input : (i e : List ℕ) {r : ReadResult} {w : Parameters} → e ≡ afterRecord i → r ≡ unless Refused (inputConditions v i) (Accepted v)
+      → r ≡ Accepted w → onInput v i ≡ onEnd v e
+  after-input i e place answered told = reading-goes-on (inputConditions v i) v answered told _ ∙ ap (onEnd v) (sym place)
+
+  pub after-end : (e : List ℕ) {r : ReadResult} {w : Parameters} → r ≡ unless Refused (endConditions e) (Accepted v) → r ≡ Accepted w → onEnd v e ≡ Accepted v
+  after-end e answered told = reading-goes-on (endConditions e) v answered told _

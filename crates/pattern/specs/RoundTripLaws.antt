@@ -1,0 +1,163 @@
+-- Laws that the checker has shown: reading the records that were written, and the records of an accepted file. Theorems.antt states what follows.
+use Prim.Native.Nat.{ℕ, _≤_}
+use mathlib.Core.Bool.{true, false, not}
+use mathlib.Core.List.{List, [], _∷_, _++_}
+use mathlib.Core.Path.{_≡_, sym, ap, subst⁻¹, _∙_}
+use native.Mathlib.Omega.{arith}
+use lib.ListN.{length, length-append, drop-of-length-le}
+use borrow.Author.Tests.{le-ltb}
+use Rattle.slices.specs.PieceLaws.{list-tabulated}
+use Rattle.slices.specs.Slices.{Bytes}
+use Rattle.common.specs.RefusalLaws.{NoneHolds}
+use Rattle.pattern.specs.Parameters.{inRange, parametersBytes, parametersAt}
+use Rattle.pattern.specs.Frame.{frameLength, recordOf, bodyLength, bodyOf, recordLength, afterRecord, fixed}
+use Rattle.pattern.specs.Image.{endsInZero}
+use Rattle.pattern.specs.Reader.{fromParameters, fromCode, fromInput, fromEnd, formIn, parametersIn, parametersOf, versionLength, versionConditions, parametersConditions, codeConditions, inputConditions, endConditions, readOf, codeOf, inputOf}
+use Rattle.pattern.specs.Writer.{versionBody, recordsOf}
+use Rattle.pattern.specs.ParameterLaws.{parameters-length, parameters-back, parameters-again}
+use Rattle.pattern.specs.FrameLaws.{record-length, record-body-length, record-framed, record-fixed, record-body, record-rest, frame-body-length, bytes-after-record, bytes-of-body, frame-split}
+use Rattle.pattern.specs.ReaderLaws.{NoneRefuses, accepted-test, VersionRecord, ParametersRecord, EndRecord, AcceptedFile, accepted-file, code-body-is, input-body-is}
+use Rattle.pattern.specs.declared.parameters.Parameters.{Parameters}
+use Rattle.pattern.specs.declared.reader.ReadResult.the-variants.{Accepted}
+
+-- ---- reading the records of a pattern
+
+-- the parameters come back
+parameters-read : (form : ℕ) (v : Parameters) (rest : List ℕ) → parametersIn form (recordOf 0x42 (parametersBytes v) ++ rest) ≡ v
+parameters-read form v rest = ap parametersAt (record-body 0x42 (parametersBytes v) rest) ∙ parameters-back v
+
+-- no condition holds of a record that was written
+version-none : (v : Parameters) (rest : List ℕ) → NoneHolds (versionConditions (recordOf 0x56 (versionBody v) ++ rest))
+unfolding versionConditions
+version-none v rest =
+    let body : bodyOf (recordOf 0x56 (versionBody v) ++ rest) ≡ versionBody v = record-body 0x56 (versionBody v) rest in
+    (ap not (record-fixed 0x56 (versionBody v) rest), (simp body, (simp body, tt)))
+
+parameters-none : (form : ℕ) (v : Parameters) (rest : List ℕ) → inRange v ≡ true → NoneHolds (parametersConditions form (recordOf 0x42 (parametersBytes v) ++ rest))
+unfolding parametersConditions
+parameters-none form v rest range =
+    let whole = ap (λ (n : ℕ). not (fixed 0x42 n (recordOf 0x42 (parametersBytes v) ++ rest))) (sym (parameters-length v)) in
+    (whole ∙ ap not (record-fixed 0x42 (parametersBytes v) rest), (simp (parameters-read form v rest, range), tt))
+
+code-none : (v : Parameters) (code rest : List ℕ) → length code ≤ v .layout .window → endsInZero code ≡ false
+    → NoneHolds (codeConditions v (recordOf 0x43 code ++ rest))
+unfolding codeConditions
+code-none v code rest small ends = (
+  ap not (record-framed 0x43 code rest),
+  (simp (record-body-length 0x43 code rest) (le-ltb (v .layout .window) (length code) small), (simp (record-body 0x43 code rest) ends, tt)),
+)
+
+input-none : (v : Parameters) (input rest : List ℕ) → length input ≤ v .layout .input → NoneHolds (inputConditions v (recordOf 0x49 input ++ rest))
+unfolding inputConditions
+input-none v input rest few =
+    (ap not (record-framed 0x49 input rest), (simp (record-body-length 0x49 input rest) (le-ltb (v .layout .input) (length input) few), tt))
+
+end-none : NoneHolds (endConditions (recordOf 0x45 [] ++ []))
+unfolding endConditions
+end-none =
+    (ap not (record-fixed 0x45 [] []), (le-ltb frameLength (length (recordOf 0x45 [] ++ [])) (simp (length-append, record-length) (omega arith)), tt))
+
+module _ (v : Parameters) (code input : List ℕ) (range : inRange v ≡ true) (small : length code ≤ v .layout .window) (ends : endsInZero code ≡ false) (few : length input ≤ v .layout .input) where
+  abbrev writtenFile : List ℕ
+  writtenFile = recordsOf v code input
+
+  from-parameters : fromParameters writtenFile ≡ recordOf 0x42 (parametersBytes v) ++ (recordOf 0x43 code ++ (recordOf 0x49 input ++ (recordOf 0x45 [] ++ [])))
+  unfolding recordsOf
+  from-parameters = record-rest 0x56 (versionBody v) _
+
+  from-code : fromCode writtenFile ≡ recordOf 0x43 code ++ (recordOf 0x49 input ++ (recordOf 0x45 [] ++ []))
+  from-code = ap afterRecord from-parameters ∙ record-rest 0x42 (parametersBytes v) _
+
+  from-input : fromInput writtenFile ≡ recordOf 0x49 input ++ (recordOf 0x45 [] ++ [])
+  from-input = ap afterRecord from-code ∙ record-rest 0x43 code _
+
+  from-end : fromEnd writtenFile ≡ recordOf 0x45 [] ++ []
+  from-end = ap afterRecord from-input ∙ record-rest 0x49 input _
+
+  parameters-of : parametersOf writtenFile ≡ v
+  parameters-of = ap (parametersIn (formIn writtenFile)) from-parameters ∙ parameters-read (formIn writtenFile) v _
+
+  file-accepted : NoneRefuses writtenFile v
+  unfolding recordsOf
+  file-accepted =
+      record {
+        version = version-none v _;
+        partition = subst⁻¹ (λ (s : List ℕ). NoneHolds (parametersConditions (formIn writtenFile) s)) from-parameters (parameters-none (formIn writtenFile) v _ range);
+        code = subst⁻¹ (λ (w : Parameters). NoneHolds (codeConditions w (fromCode writtenFile))) parameters-of (subst⁻¹ (λ (s : List ℕ). NoneHolds (codeConditions v s)) from-code (code-none v code _ small ends));
+        input = subst⁻¹ (λ (w : Parameters). NoneHolds (inputConditions w (fromInput writtenFile))) parameters-of (subst⁻¹ (λ (s : List ℕ). NoneHolds (inputConditions v s)) from-input (input-none v input _ few));
+        end = subst⁻¹ (λ (s : List ℕ). NoneHolds (endConditions s)) from-end end-none;
+        same = parameters-of;
+      }
+
+  pub read-records : readOf writtenFile ≡ Accepted v
+  read-records = accepted-test writtenFile v file-accepted
+
+  pub code-of-records : codeOf writtenFile ≡ code
+  code-of-records =
+      code-body-is writtenFile v read-records ∙ ap bodyOf from-code ∙ record-body 0x43 code _
+
+  pub input-of-records : inputOf writtenFile ≡ input
+  input-of-records =
+      input-body-is writtenFile v read-records ∙ ap bodyOf from-input ∙ record-body 0x49 input _
+
+-- ---- the records of an accepted file
+
+version-body : (s : List ℕ) → VersionRecord s → bodyOf s ≡ 1 ∷ 1 ∷ []
+version-body s f =
+    list-tabulated versionLength (bodyOf s) (frame-body-length 0x56 s (f .frame) ∙ f .size) ∙ (λ j. f .form j ∷ f .board j ∷ [])
+
+parameters-body : (form : ℕ) (s : List ℕ) → Bytes s → ParametersRecord form s → bodyOf s ≡ parametersBytes (parametersIn form s)
+parameters-body form s bytes f =
+    sym (parameters-again form (bodyOf s) (frame-body-length 0x42 s (f .frame) ∙ f .size) (bytes-of-body s bytes))
+
+end-alone : (s : List ℕ) → Bytes s → EndRecord s → s ≡ recordOf 0x45 [] ++ []
+unfolding afterRecord
+end-alone s bytes f =
+    let body : bodyOf s ≡ [] = list-tabulated 0 (bodyOf s) (frame-body-length 0x45 s (f .frame) ∙ f .size) in
+    frame-split 0x45 s bytes (f .frame) ∙ (λ j. recordOf 0x45 (body j) ++ no-rest s (f .size) (f .ends) j)
+  where
+    no-rest : (s : List ℕ) → bodyLength s ≡ 0 → length s ≡ frameLength → afterRecord s ≡ []
+    no-rest s e ends = drop-of-length-le s {i = recordLength s} (omega arith)
+
+-- an accepted file is the records of its parameters and bodies
+module _ (s : List ℕ) (v : Parameters) (bytes : Bytes s) (accepted : readOf s ≡ Accepted v) where
+  abbrev asAccepted : AcceptedFile s v
+  asAccepted = accepted-file s v accepted
+
+  abbrev parameters-are-bytes : Bytes (fromParameters s)
+  parameters-are-bytes = bytes-after-record s bytes
+
+  abbrev code-are-bytes : Bytes (fromCode s)
+  code-are-bytes = bytes-after-record (fromParameters s) parameters-are-bytes
+
+  abbrev input-are-bytes : Bytes (fromInput s)
+  input-are-bytes = bytes-after-record (fromCode s) code-are-bytes
+
+  input-part : fromInput s ≡ recordOf 0x49 (inputOf s) ++ (recordOf 0x45 [] ++ [])
+  input-part =
+      frame-split 0x49 (fromInput s) input-are-bytes (asAccepted .input .frame)
+      ∙ ap (λ (l : List ℕ). recordOf 0x49 (bodyOf (fromInput s)) ++ l) (end-alone (fromEnd s) (bytes-after-record (fromInput s) input-are-bytes) (asAccepted .end))
+      ∙ ap (λ (l : List ℕ). recordOf 0x49 l ++ (recordOf 0x45 [] ++ [])) (sym (input-body-is s v accepted))
+
+  code-part : fromCode s ≡ recordOf 0x43 (codeOf s) ++ (recordOf 0x49 (inputOf s) ++ (recordOf 0x45 [] ++ []))
+  code-part =
+      frame-split 0x43 (fromCode s) code-are-bytes (asAccepted .code .frame)
+      ∙ ap (λ (l : List ℕ). recordOf 0x43 (bodyOf (fromCode s)) ++ l) input-part
+      ∙ ap (λ (l : List ℕ). recordOf 0x43 l ++ (recordOf 0x49 (inputOf s) ++ (recordOf 0x45 [] ++ []))) (sym (code-body-is s v accepted))
+
+  parameters-part : fromParameters s ≡ recordOf 0x42 (parametersBytes v) ++ (recordOf 0x43 (codeOf s) ++ (recordOf 0x49 (inputOf s) ++ (recordOf 0x45 [] ++ [])))
+  parameters-part =
+      frame-split 0x42 (fromParameters s) parameters-are-bytes (asAccepted .partition .frame)
+      ∙ ap (λ (l : List ℕ). recordOf 0x42 (bodyOf (fromParameters s)) ++ l) code-part
+      ∙ ap (λ (l : List ℕ). recordOf 0x42 l ++ (recordOf 0x43 (codeOf s) ++ (recordOf 0x49 (inputOf s) ++ (recordOf 0x45 [] ++ []))))
+      (parameters-body (formIn s) (fromParameters s) parameters-are-bytes (asAccepted .partition) ∙ ap parametersBytes (asAccepted .same))
+
+  pub records-again : recordsOf v (codeOf s) (inputOf s) ≡ s
+  unfolding recordsOf
+  records-again =
+      sym (
+      frame-split 0x56 s bytes (asAccepted .version .frame)
+      ∙ ap (λ (l : List ℕ). recordOf 0x56 (bodyOf s) ++ l) parameters-part
+      ∙ ap (λ (l : List ℕ). recordOf 0x56 l ++ (recordOf 0x42 (parametersBytes v) ++ (recordOf 0x43 (codeOf s) ++ (recordOf 0x49 (inputOf s) ++ (recordOf 0x45 [] ++ [])))))
+      (version-body s (asAccepted .version))
+      )

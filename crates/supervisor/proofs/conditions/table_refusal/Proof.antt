@@ -1,0 +1,21 @@
+-- `supervisor::conditions::table_refusal`: by its two branches.
+use Rattle.common.specs.Choice.{if_then_else_}
+use Rattle.common.specs.Refusals.{unless, refusalBy}
+use Rattle.supervisor.specs.Conditions.{tableConditions}
+use borrow.Author.Needs.{needs}
+use Rattle.supervisor.proofs.conditions.table_refusal.Statement.{statement}
+use Rattle.supervisor.proofs.conditions.table_refusal.Tie as tie
+
+table-sound-requires : tie.Need-table-sound-requires
+table-sound-requires c κs = search needs
+
+returns : tie.Need-returns
+unfolding refusalBy unless if_then_else_ tableConditions
+returns c = rw (← c .before .table-sound .ensures, c .if1 .taken)
+
+returns-2 : tie.Need-returns-2
+unfolding refusalBy unless if_then_else_ tableConditions
+returns-2 c = rw (← c .before .table-sound .ensures, c .if1 .left)
+
+pub table-refusal-spec : {M : Type 1} → statement M
+table-refusal-spec = tie.close (tie.spec table-sound-requires returns returns-2)

@@ -1,0 +1,44 @@
+-- Names for lists of definitions, which laws and worked cases open together. Nothing here has to be believed.
+use Rattle.common.specs.Choice.{if_then_else_}
+use Rattle.common.specs.Layout.{layoutSound}
+use Rattle.common.specs.Refusals.{refusalBy, unless}
+use Rattle.common.specs.Repetition.{times}
+use Rattle.common.specs.Tests.{allAfter, allBelow}
+use Rattle.cpu.specs.Cpu.{freshCpu}
+use Rattle.loader.specs.Fresh.{freshState}
+use Rattle.slices.specs.Slices.{copied}
+use Rattle.supervisor.specs.Calls.{afterAccepted, afterCall, changeConditions, drainedBuffer, drainedCount, outcomeOf, patchOf, queryConditions, refusal}
+use Rattle.supervisor.specs.Conditions.{emptyConditions, loadedConditions, memoryConditions, tableConditions}
+use Rattle.supervisor.specs.Draining.{drainConditions, drainPatch, drainedState}
+use Rattle.supervisor.specs.Feeding.{fedState, feedConditions, feedPatch}
+use Rattle.supervisor.specs.Loading.{fileConditions, loadPatch, partitionFor, placeConditions}
+use Rattle.supervisor.specs.Running.{afterRun, slotQuanta, slotQuantum}
+use Rattle.supervisor.specs.Sound.{allFifteenBits, allZero, apart, clearOfOthers, partitionSound, slotSound, stateSound, tableSound, zeroPartition, zeroState}
+use Rattle.supervisor.specs.System.{machineIn, patched}
+use Rattle.supervisor.specs.Table.{emptySlot, slotAt, withSlot}
+use Rattle.supervisor.specs.Unloading.{unloadPatch}
+
+-- which tables are sound, and an empty slot
+unfoldable pub sound-definitions : Type 0
+unfolding tableSound slotSound partitionSound stateSound zeroPartition zeroState allZero allFifteenBits clearOfOthers apart slotAt layoutSound allAfter allBelow emptySlot freshCpu
+sound-definitions = Unit {0}
+
+-- what refuses a call
+unfoldable pub refusal-definitions : Type 0
+unfolding refusal changeConditions queryConditions tableConditions memoryConditions emptyConditions loadedConditions fileConditions placeConditions feedConditions drainConditions refusalBy unless if_then_else_
+refusal-definitions = Unit {0}
+
+-- an accepted change at a slot, as a patch of it
+unfoldable pub change-definitions : Type 0
+unfolding patchOf loadPatch unloadPatch feedPatch drainPatch partitionFor emptySlot freshState freshCpu fedState drainedState
+change-definitions = Unit {0}
+
+-- what a drain answers and leaves
+unfoldable pub drain-definitions : Type 0
+unfolding outcomeOf afterCall afterAccepted patchOf patched drainPatch drainedCount drainedBuffer withSlot slotAt if_then_else_
+drain-definitions = Unit {0}
+
+-- a run of rounds
+unfoldable pub run-definitions : Type 0
+unfolding patched withSlot slotAt copied machineIn slotQuantum slotQuanta afterRun times
+run-definitions = Unit {0}

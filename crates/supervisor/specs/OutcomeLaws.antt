@@ -1,0 +1,18 @@
+-- Laws that the checker has shown: what a refused and an accepted call leave, for every call alike.
+use Prim.Native.Nat.{ℕ}
+use mathlib.Core.List.{List}
+use mathlib.Core.Path.{_≡_, sym, _∙_}
+use borrow.Author.Tests.{ne-eqb}
+use Rattle.common.specs.Choice.{if_then_else_}
+use Rattle.supervisor.specs.Calls.{Call, refusal, afterAccepted, afterCall, outcome, outcomeOf}
+use Rattle.supervisor.specs.System.{System, system}
+use Rattle.supervisor.specs.declared.table.Table.{Table}
+
+pub refused-outcome : (c : Call) (x : System) {n : ℕ} → n ≡ refusal c x → (n ≡ 0 → ⊥) → outcome n (x .table) (x .memory) ≡ outcomeOf c x
+unfolding outcomeOf afterCall if_then_else_
+refused-outcome c x {n} e some = rw (← e, ne-eqb n 0 some)
+
+pub accepted-outcome : (c : Call) (x : System) (t : Table) (memory : List ℕ) {n : ℕ} → n ≡ refusal c x → n ≡ 0 → system t memory ≡ afterAccepted c x
+    → outcome 0 t memory ≡ outcomeOf c x
+unfolding outcomeOf afterCall if_then_else_
+accepted-outcome c x t memory e none h = let z : refusal c x ≡ 0 = sym e ∙ none in rw (z, ← h)

@@ -1,0 +1,135 @@
+-- Laws that the checker has shown: a patch of slot k that keeps to its partition leaves the table sound, the other slots with their
+-- machines, and the bytes in no partition.
+use mathlib.Core.Bool.{true, false, not, false≢true, _&&_}
+use mathlib.Core.List.{List}
+use mathlib.Core.Logic.{_≢_, _⊎_, inl, inr}
+use mathlib.Core.Path.{_≡_, sym, ap, _∙_, subst}
+use Prim.Native.Nat.{ℕ, _+_, _≤_, _<_}
+use native.Mathlib.Decide.{decLt, decLe}
+use native.Mathlib.Omega.{arith}
+use borrow.Author.Tests.{le-leb, lt-ltb}
+use lib.Dec.{leb}
+use lib.ListN.{length, getD}
+use Rattle.common.specs.declared.places.Location.{Location}
+use Rattle.cpu.specs.Machine.{Machine}
+use Rattle.cpu.specs.declared.state.State.{State}
+use Rattle.slices.specs.SliceLaws.{copied-length, byte-before-copy, byte-after-copy}
+use Rattle.slices.specs.Slices.{copied}
+use Rattle.supervisor.specs.ConditionLaws.{SoundSystem, HoldsPattern}
+use Rattle.supervisor.specs.Isolation.{InNoPartition, inPartition}
+use Rattle.supervisor.specs.SlotMachineLaws.{untouched}
+use Rattle.supervisor.specs.System.{System, slotOf, Patch, patch, patched, machineIn}
+use Rattle.supervisor.specs.SoundLaws.{StateSound, Loaded, Unloaded, slot-fact, slot-test, loaded-live, Apart, apart-cases, with-slot-same, with-slot-other, with-slot-size, with-slot-sound}
+use Rattle.supervisor.specs.Table.{slotWithState, isEmpty, partitionEnd}
+use Rattle.supervisor.specs.Sound.{slotSound}
+use Rattle.common.specs.TestLaws.{and-test}
+use Rattle.supervisor.specs.declared.table.Partition.{Partition}
+use Rattle.supervisor.specs.declared.table.Slot.{Slot}
+
+-- the machine of slot k
+abbrev pub slotMachine : ℕ → System → Machine
+slotMachine k x = machineIn (slotOf x k) (x .memory)
+
+abbrev pub OutsidePartition : Partition → ℕ → Type 0
+OutsidePartition p i = (i < p .base .0) ⊎ (partitionEnd p ≤ i)
+
+pub outside-partition : (s : Slot) (i : ℕ) → inPartition s i ≡ false → isEmpty s ≡ false → OutsidePartition (s .partition) i
+unfolding inPartition
+outside-partition s i h m = go (decLt i (s .partition .base .0)) (decLe (partitionEnd (s .partition)) i)
+  where
+    go : Dec (i < s .partition .base .0) → Dec (partitionEnd (s .partition) ≤ i) → OutsidePartition (s .partition) i
+    go (yes p) q = inl p
+    go (no p) (yes q) = inr q
+    go (no p) (no q) =
+        absurd (false≢true (sym h ∙ and-test (not (isEmpty s) && leb (s .partition .base .0) i) _ (and-test _ _ (ap not m) (le-leb (s .partition .base .0) i (omega arith))) (lt-ltb i (partitionEnd (s .partition)) (omega arith))))
+
+-- the partition of each slot, an empty one too, is inside the memory
+pub slot-inside : (x : System) → SoundSystem x → (k : ℕ) → k < 8 → partitionEnd (slotOf x k .partition) ≤ length (x .memory)
+slot-inside x g k q = go (slot-fact _ _ (g .table .each k q))
+  where
+    go : Unloaded (slotOf x k) ⊎ Loaded (x .table .size) (slotOf x k) → partitionEnd (slotOf x k .partition) ≤ length (x .memory)
+    go (inl u) = omega (arith, u .base, u .bytes)
+    go (inr f) = rw (g .fits) (f .partition .inside)
+
+-- ---- what a patch must meet, and what it keeps
+
+-- a loaded slot in whose partition the patch writes
+pub record WritesInside (s : Slot) (p : Patch) : Type 0 where
+  pub loaded : isEmpty s ≡ false
+  pub from : s .partition .base .0 ≤ p .place .0
+  pub to : p .place .0 + length (p .bytes) ≤ partitionEnd (s .partition)
+
+-- the new slot is sound and clear of the others, and what is written lies in its partition or in the one before
+pub record PatchFits (x : System) (k : ℕ) (p : Patch) : Type 0 where
+  pub slot : k < 8
+  pub whole : slotSound (x .table .size) (p .slot) ≡ true
+  pub clear : (j : ℕ) → j < 8 → j ≢ k → Apart (slotOf x j .partition) (p .slot .partition)
+  pub inside : WritesInside (slotOf x k) p ⊎ WritesInside (p .slot) p
+
+-- soundness, the other slots with their machines, and the bytes in no partition before and after
+pub record KeepsOthers (k : ℕ) (x y : System) : Type 0 where
+  pub system : SoundSystem y
+  pub slots : (j : ℕ) → j ≢ k → slotOf y j ≡ slotOf x j
+  pub machines : (j : ℕ) → j < 8 → j ≢ k → slotMachine j y ≡ slotMachine j x
+  pub bytes : (i : ℕ) → InNoPartition i x → InNoPartition i y → getD (y .memory) i 0 ≡ getD (x .memory) i 0
+
+module _ (x : System) (g : SoundSystem x) (k : ℕ) (p : Patch) where
+  pub patched-slot : k < 8 → slotOf (patched x k p) k ≡ p .slot
+  unfolding patched
+  patched-slot q = with-slot-same (x .table) k (p .slot) (omega (arith, g .table .eight))
+
+  patched-others : (j : ℕ) → j ≢ k → slotOf (patched x k p) j ≡ slotOf x j
+  unfolding patched
+  patched-others j ne = with-slot-other (x .table) k (p .slot) j ne
+
+  -- clear of a partition that is clear of the home
+  away : (s : Slot) → WritesInside s p → (q : Partition) → Apart q (s .partition) → (partitionEnd q ≤ p .place .0) ⊎ (p .place .0 + length (p .bytes) ≤ q .base .0)
+  away s h q a = go (apart-cases q (s .partition) a)
+    where
+      go : (partitionEnd q ≤ s .partition .base .0) ⊎ (partitionEnd (s .partition) ≤ q .base .0) → (partitionEnd q ≤ p .place .0) ⊎ (p .place .0 + length (p .bytes) ≤ q .base .0)
+      go (inl u) = inl (omega (arith, h .from))
+      go (inr u) = inr (omega (arith, h .to))
+
+  -- a byte outside the home is not written
+  unwritten : (s : Slot) → WritesInside s p → (i : ℕ) → inPartition s i ≡ false → getD (copied (x .memory) (p .place .0) (p .bytes)) i 0 ≡ getD (x .memory) i 0
+  unwritten s h i o = go (outside-partition s i o (h .loaded))
+    where
+      go : OutsidePartition (s .partition) i → getD (copied (x .memory) (p .place .0) (p .bytes)) i 0 ≡ getD (x .memory) i 0
+      go (inl u) = byte-before-copy (x .memory) (p .place .0) (p .bytes) i (omega (arith, h .from))
+      go (inr u) = byte-after-copy (x .memory) (p .place .0) (p .bytes) i (omega (arith, h .to))
+
+  -- the one lemma about patches
+  pub patch-keeps : PatchFits x k p → KeepsOthers k x (patched x k p)
+  unfolding patched InNoPartition
+  patch-keeps f =
+      record {
+        system =
+            record {
+              table = with-slot-sound (x .table) k (p .slot) (g .table) (f .slot) (f .whole) (f .clear);
+              fits = copied-length (x .memory) (p .place .0) (p .bytes) ∙ g .fits ∙ sym (with-slot-size (x .table) k (p .slot));
+            };
+        slots = patched-others;
+        machines = λ j q ne.
+            ap (λ (z : Slot). machineIn z (copied (x .memory) (p .place .0) (p .bytes))) (patched-others j ne)
+            ∙ untouched (slotOf x j) (x .memory) (p .place .0) (p .bytes) (clear j q ne (f .inside));
+        bytes = λ i h₀ h₁. bytes i h₀ h₁ (f .inside);
+      }
+    where
+      clear : (j : ℕ) → j < 8 → j ≢ k → WritesInside (slotOf x k) p ⊎ WritesInside (p .slot) p → (partitionEnd (slotOf x j .partition) ≤ p .place .0) ⊎ (p .place .0 + length (p .bytes) ≤ slotOf x j .partition .base .0)
+      clear j q ne (inl h) = away (slotOf x k) h (slotOf x j .partition) (g .table .disjoint j k q (f .slot) ne)
+      clear j q ne (inr h) = away (p .slot) h (slotOf x j .partition) (f .clear j q ne)
+
+      bytes : (i : ℕ) → InNoPartition i x → InNoPartition i (patched x k p) → WritesInside (slotOf x k) p ⊎ WritesInside (p .slot) p → getD (copied (x .memory) (p .place .0) (p .bytes)) i 0 ≡ getD (x .memory) i 0
+      bytes i h₀ h₁ (inl h) = unwritten (slotOf x k) h i (h₀ k (f .slot))
+      bytes i h₀ h₁ (inr h) = unwritten (p .slot) h i (subst (λ (s : Slot). inPartition s i ≡ false) (patched-slot (f .slot)) (h₁ k (f .slot)))
+
+-- another state in the partition of a loaded slot, and bytes in it
+pub state-fits : (x : System) (k : ℕ) → HoldsPattern (x .table) k → (z : State) (place : Location) (bytes : List ℕ) → StateSound (slotOf x k .partition .layout) z
+    → slotOf x k .partition .base .0 ≤ place .0 → place .0 + length bytes ≤ partitionEnd (slotOf x k .partition) → PatchFits x k (patch (slotWithState (slotOf x k) z) place bytes)
+state-fits x k h z place bytes s l u =
+    record {
+      slot = h .slot;
+      whole = slot-test _ (slotWithState (slotOf x k) z) (record { partition = h .loaded .partition; state = s });
+      clear = λ j q ne. h .table .disjoint j k q (h .slot) ne;
+      inside = inl (record { loaded = loaded-live _ _ (h .loaded); from = l; to = u });
+    }

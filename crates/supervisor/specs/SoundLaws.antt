@@ -1,0 +1,292 @@
+-- Laws that the checker has shown: soundness as facts with names, what the tests say and back.
+use mathlib.Core.Bool.{Bool, true, false, _&&_, _||_, false≢true}
+use mathlib.Core.List.{List}
+use mathlib.Core.Logic.{_≢_, _⊎_, inl, inr}
+use mathlib.Core.Path.{_≡_, sym, _∙_, refl}
+use Prim.Native.Nat.{ℕ, _≤_, _<_}
+use native.Mathlib.Decide.{ℕ-discrete, decLt}
+use native.Mathlib.Omega.{arith}
+use borrow.Author.Tests.{leb-true, le-leb, ltb-true, lt-ltb, eqb-true, eq-eqb, ne-eqb}
+use lib.Dec.{eqb, leb}
+use lib.ListN.{getD, length, length-set, List·getD-eq-default}
+use lib.Seq.{getD-set-same, getD-set-other}
+use Rattle.common.specs.LayoutLaws.{LayoutSound, layout-fact, layout-test}
+use Rattle.common.specs.Layout.{layoutSize}
+use Rattle.common.specs.TestLaws.{and-fact, and-test, or-fact, or-left, or-right, when-fact, when-test, Within, within-fact, within-test, all-fact, all-test, below-fact, below-test}
+use Rattle.common.specs.declared.layout.Layout.{Layout}
+use Rattle.cpu.specs.Result.{lastStatus}
+use Rattle.cpu.specs.Cpu.{storedPsu}
+use Rattle.cpu.specs.declared.state.State.{State}
+use Rattle.supervisor.specs.Table.{noSlot, slotAt, withSlot, isEmpty, partitionEnd}
+use Rattle.supervisor.specs.Sound.{partitionSound, allFifteenBits, stateSound, zeroPartition, zeroState, slotSound, apart, clearOfOthers, tableSound}
+use Rattle.supervisor.specs.declared.table.Partition.{Partition}
+use Rattle.supervisor.specs.declared.table.Slot.{Slot}
+use Rattle.supervisor.specs.declared.table.Table.{Table}
+
+-- ---- a partition
+
+pub record PartitionSound (size : ℕ) (p : Partition) : Type 0 where
+  pub layout : LayoutSound (p .layout)
+  pub quantum : Within (p .quantum) 255
+  pub inside : partitionEnd p ≤ size
+
+partition-fact : (size : ℕ) (p : Partition) → partitionSound size p ≡ true → PartitionSound size p
+unfolding partitionSound
+partition-fact size p h =
+    let (layout, (quantum, (inside, _))) = all-fact _ h in
+    record { layout = layout-fact _ layout; quantum = within-fact _ 255 quantum; inside = leb-true _ _ inside }
+
+partition-test : (size : ℕ) (p : Partition) → PartitionSound size p → partitionSound size p ≡ true
+unfolding partitionSound
+partition-test size p f = all-test _ (layout-test _ (f .layout), (within-test _ 255 (f .quantum), (le-leb _ _ (f .inside), tt)))
+
+-- ---- what runs in a partition
+
+pub record StateSound (l : Layout) (s : State) : Type 0 where
+  pub status : Within (s .status) lastStatus
+  pub counter : s .cpu .counter < 32768
+  pub returns : (i : ℕ) → getD (s .cpu .returns) i 0 < 32768
+  pub psu : storedPsu (s .cpu .psu) ≡ s .cpu .psu
+  pub read : s .read ≤ s .filled
+  pub filled : s .filled ≤ l .input
+  pub written : s .written ≤ l .output
+  pub wants : s .status ≡ 3 → s .read ≡ s .filled
+  pub full : s .status ≡ 4 → s .written ≡ l .output
+
+fifteen-bits-fact : (l : List ℕ) → allFifteenBits l ≡ true → (i : ℕ) → getD l i 0 < 32768
+unfolding allFifteenBits
+fifteen-bits-fact l h i = go (decLt i (length l))
+  where
+    go : Dec (i < length l) → getD l i 0 < 32768
+    go (yes q) = ltb-true _ _ (below-fact (length l) _ h i q)
+    go (no q) = let e : getD l i 0 ≡ 0 = List·getD-eq-default l 0 {n = i} (omega arith) in omega arith
+
+fifteen-bits-test : (l : List ℕ) → ((i : ℕ) → getD l i 0 < 32768) → allFifteenBits l ≡ true
+unfolding allFifteenBits
+fifteen-bits-test l h = below-test (length l) _ (λ i q. lt-ltb _ _ (h i))
+
+module _ (l : Layout) (s : State) where
+  state-fact : stateSound l s ≡ true → StateSound l s
+  unfolding stateSound
+  state-fact h =
+      let (status, (counter, (returns, (psu, (read, (filled, (written, (wants, (full, _))))))))) = all-fact _ h in
+      record {
+        status = within-fact _ lastStatus status;
+        counter = ltb-true _ _ counter;
+        returns = fifteen-bits-fact (s .cpu .returns) returns;
+        psu = eqb-true _ _ psu;
+        read = leb-true _ _ read;
+        filled = leb-true _ _ filled;
+        written = leb-true _ _ written;
+        wants = when-fact (s .status) 3 (s .read) (s .filled) wants;
+        full = when-fact (s .status) 4 (s .written) (l .output) full;
+      }
+
+  state-test : StateSound l s → stateSound l s ≡ true
+  unfolding stateSound
+  state-test f =
+      all-test _ (
+        within-test _ lastStatus (f .status),
+        (
+          lt-ltb _ _ (f .counter),
+          (
+            fifteen-bits-test (s .cpu .returns) (f .returns),
+            (
+              eq-eqb _ _ (f .psu),
+              (
+                le-leb _ _ (f .read),
+                (
+                  le-leb _ _ (f .filled),
+                  (
+                    le-leb _ _ (f .written),
+                    (
+                      when-test (s .status) 3 (s .read) (s .filled) (f .wants),
+                      (when-test (s .status) 4 (s .written) (l .output) (f .full), tt),
+                    ),
+                  ),
+                ),
+              ),
+            ),
+          ),
+        ),
+      )
+
+-- ---- a slot
+
+pub record Loaded (size : ℕ) (s : Slot) : Type 0 where
+  pub partition : PartitionSound size (s .partition)
+  pub state : StateSound (s .partition .layout) (s .state)
+
+-- all that the theorem needs of an empty slot
+pub record Unloaded (s : Slot) : Type 0 where
+  pub base : s .partition .base .0 ≡ 0
+  pub bytes : layoutSize (s .partition .layout) ≡ 0
+  pub status : s .state .status ≡ 0
+
+zero-slot : (s : Slot) → zeroPartition (s .partition) ≡ true → zeroState (s .state) ≡ true → Unloaded s
+unfolding zeroPartition zeroState
+zero-slot s h z =
+    let (base, (window, (input, (output, _)))) = all-fact _ h in
+    let (status, _) = all-fact _ z in
+    let w : s .partition .layout .window ≡ 0 = eqb-true _ _ window in
+    let i : s .partition .layout .input ≡ 0 = eqb-true _ _ input in
+    let o : s .partition .layout .output ≡ 0 = eqb-true _ _ output in
+    record { base = eqb-true _ _ base; bytes = omega arith; status = eqb-true _ _ status }
+
+pub slot-fact : (size : ℕ) (s : Slot) → slotSound size s ≡ true → Unloaded s ⊎ Loaded size s
+unfolding slotSound
+slot-fact size s h = go (or-fact (zeroPartition (s .partition) && zeroState (s .state)) _ h)
+  where
+    go : ((zeroPartition (s .partition) && zeroState (s .state)) ≡ true) ⊎ ((partitionSound size (s .partition) && stateSound (s .partition .layout) (s .state)) ≡ true) → Unloaded s ⊎ Loaded size s
+    go (inl u) = let b = and-fact (zeroPartition (s .partition)) (zeroState (s .state)) u in inl (zero-slot s (b .0) (b .1))
+    go (inr u) =
+        let b = and-fact (partitionSound size (s .partition)) (stateSound (s .partition .layout) (s .state)) u in
+        inr (record { partition = partition-fact size (s .partition) (b .0); state = state-fact (s .partition .layout) (s .state) (b .1) })
+
+pub slot-test : (size : ℕ) (s : Slot) → Loaded size s → slotSound size s ≡ true
+unfolding slotSound
+slot-test size s f =
+    or-right (zeroPartition (s .partition) && zeroState (s .state)) _
+    (and-test (partitionSound size (s .partition)) (stateSound (s .partition .layout) (s .state)) (partition-test size (s .partition) (f .partition)) (state-test (s .partition .layout) (s .state) (f .state)))
+
+pub loaded-slot : (size : ℕ) (s : Slot) → slotSound size s ≡ true → isEmpty s ≡ false → Loaded size s
+loaded-slot size s h m = go (slot-fact size s h)
+  where
+    go : Unloaded s ⊎ Loaded size s → Loaded size s
+    go (inl u) = absurd (false≢true (sym m ∙ eq-eqb (s .state .status) 0 (u .status)))
+    go (inr u) = u
+
+pub loaded-live : (size : ℕ) (s : Slot) → Loaded size s → isEmpty s ≡ false
+loaded-live size s f = let l : 1 ≤ s .state .status = f .state .status .some in ne-eqb (s .state .status) 0 (λ e. omega arith)
+
+-- ---- disjoint partitions
+
+pub Apart : Partition → Partition → Type 0
+Apart p q = (partitionEnd p ≤ q .base .0) ⊎ (partitionEnd q ≤ p .base .0)
+
+pub apart-sym : (p q : Partition) → Apart p q → Apart q p
+unfolding Apart
+apart-sym p q (inl u) = inr u
+apart-sym p q (inr u) = inl u
+
+pub apart-cases : (p q : Partition) → Apart p q → (partitionEnd p ≤ q .base .0) ⊎ (partitionEnd q ≤ p .base .0)
+unfolding Apart
+apart-cases p q h = h
+
+pub apart-behind : (p q : Partition) → partitionEnd q ≤ p .base .0 → Apart p q
+unfolding Apart
+apart-behind p q h = inr h
+
+apart-fact : (p q : Partition) → apart p q ≡ true → Apart p q
+unfolding apart Apart
+apart-fact p q h = go (or-fact (leb (partitionEnd p) (q .base .0)) (leb (partitionEnd q) (p .base .0)) h)
+  where
+    go : (leb (partitionEnd p) (q .base .0) ≡ true) ⊎ (leb (partitionEnd q) (p .base .0) ≡ true) → (partitionEnd p ≤ q .base .0) ⊎ (partitionEnd q ≤ p .base .0)
+    go (inl u) = inl (leb-true _ _ u)
+    go (inr u) = inr (leb-true _ _ u)
+
+apart-test : (p q : Partition) → Apart p q → apart p q ≡ true
+unfolding apart Apart
+apart-test p q (inl u) = or-left (leb (partitionEnd p) (q .base .0)) (leb (partitionEnd q) (p .base .0)) (le-leb _ _ u)
+apart-test p q (inr u) = or-right (leb (partitionEnd p) (q .base .0)) (leb (partitionEnd q) (p .base .0)) (le-leb _ _ u)
+
+module _ (t : Table) (but : ℕ) (p : Partition) where
+  isClear : ℕ → Bool
+  isClear j = eqb j but || apart (slotAt t j .partition) p
+
+  pub clear-fact : clearOfOthers t but p ≡ true → (j : ℕ) → j < 8 → j ≢ but → Apart (slotAt t j .partition) p
+  unfolding clearOfOthers isClear
+  clear-fact h j q ne = go (or-fact (eqb j but) (apart (slotAt t j .partition) p) (below-fact 8 isClear h j q))
+    where
+      go : (eqb j but ≡ true) ⊎ (apart (slotAt t j .partition) p ≡ true) → Apart (slotAt t j .partition) p
+      go (inl u) = absurd (ne (eqb-true j but u))
+      go (inr u) = apart-fact (slotAt t j .partition) p u
+
+  pub clear-test : ((j : ℕ) → j < 8 → j ≢ but → Apart (slotAt t j .partition) p) → clearOfOthers t but p ≡ true
+  unfolding clearOfOthers isClear
+  clear-test h = below-test 8 isClear (λ j q. go j q (ℕ-discrete j but))
+    where
+      go : (j : ℕ) → j < 8 → Dec (j ≡ but) → isClear j ≡ true
+      go j q (yes e) = or-left (eqb j but) (apart (slotAt t j .partition) p) (eq-eqb j but e)
+      go j q (no e) = or-right (eqb j but) (apart (slotAt t j .partition) p) (apart-test (slotAt t j .partition) p (h j q e))
+
+-- ---- a sound table
+
+pub record TableSound (t : Table) : Type 0 where
+  pub size : Within (t .size) 65536
+  pub eight : length (t .slots) ≡ 8
+  pub each : (k : ℕ) → k < 8 → slotSound (t .size) (slotAt t k) ≡ true
+  pub disjoint : (j k : ℕ) → j < 8 → k < 8 → j ≢ k → Apart (slotAt t j .partition) (slotAt t k .partition)
+
+module _ (t : Table) where
+  slotIsSound : ℕ → Bool
+  slotIsSound k = slotSound (t .size) (slotAt t k)
+
+  slotIsClear : ℕ → Bool
+  slotIsClear k = clearOfOthers t k (slotAt t k .partition)
+
+  pub table-fact : tableSound t ≡ true → TableSound t
+  unfolding tableSound slotIsSound slotIsClear
+  table-fact h =
+      let (size, (eight, (each, (disjoint, _)))) = all-fact _ h in
+      record {
+        size = within-fact _ 65536 size;
+        eight = eqb-true _ _ eight;
+        each = below-fact 8 slotIsSound each;
+        disjoint = λ j k p q ne. clear-fact t k (slotAt t k .partition) (below-fact 8 slotIsClear disjoint k q) j p ne;
+      }
+
+  pub table-test : TableSound t → tableSound t ≡ true
+  unfolding tableSound slotIsSound slotIsClear
+  table-test f =
+      all-test _ (
+        within-test _ 65536 (f .size),
+        (
+          eq-eqb _ _ (f .eight),
+          (
+            below-test 8 slotIsSound (f .each),
+            (below-test 8 slotIsClear (λ k q. clear-test t k (slotAt t k .partition) (λ j p ne. f .disjoint j k p q ne)), tt),
+          ),
+        ),
+      )
+
+-- ---- one slot put anew
+
+module _ (t : Table) (k : ℕ) (s : Slot) where
+  pub with-slot-same : k < length (t .slots) → slotAt (withSlot t k s) k ≡ s
+  unfolding slotAt withSlot
+  with-slot-same h = getD-set-same (t .slots) k s noSlot h
+
+  pub with-slot-other : (j : ℕ) → j ≢ k → slotAt (withSlot t k s) j ≡ slotAt t j
+  unfolding slotAt withSlot
+  with-slot-other j ne = getD-set-other (t .slots) k j s noSlot ne
+
+  pub with-slot-size : withSlot t k s .size ≡ t .size
+  unfolding withSlot
+  with-slot-size = refl
+
+  with-slot-count : length (withSlot t k s .slots) ≡ length (t .slots)
+  unfolding withSlot
+  with-slot-count = length-set (t .slots) k s
+
+  pub with-slot-sound : TableSound t → k < 8 → slotSound (t .size) s ≡ true → ((j : ℕ) → j < 8 → j ≢ k → Apart (slotAt t j .partition) (s .partition)) → TableSound (withSlot t k s)
+  with-slot-sound h q ok free =
+      record {
+        size = rw with-slot-size (h .size);
+        eight = with-slot-count ∙ h .eight;
+        each = λ j p. each j p (ℕ-discrete j k);
+        disjoint = λ i j p r ne. disjoint i j p r ne (ℕ-discrete i k) (ℕ-discrete j k);
+      }
+    where
+      kin : k < length (t .slots)
+      kin = omega (arith, h .eight)
+
+      each : (j : ℕ) → j < 8 → Dec (j ≡ k) → slotSound (withSlot t k s .size) (slotAt (withSlot t k s) j) ≡ true
+      each j p (yes e) = rw (e, with-slot-same kin, with-slot-size) ok
+      each j p (no e) = rw (with-slot-other j e, with-slot-size) (h .each j p)
+
+      disjoint : (i j : ℕ) → i < 8 → j < 8 → i ≢ j → Dec (i ≡ k) → Dec (j ≡ k) → Apart (slotAt (withSlot t k s) i .partition) (slotAt (withSlot t k s) j .partition)
+      disjoint i j p r ne (yes e) (yes f) = absurd (ne (e ∙ sym f))
+      disjoint i j p r ne (yes e) (no f) = rw (e, with-slot-same kin, with-slot-other j f) (apart-sym _ _ (free j r f))
+      disjoint i j p r ne (no e) (yes f) = rw (f, with-slot-same kin, with-slot-other i e) (free i p e)
+      disjoint i j p r ne (no e) (no f) = rw (with-slot-other i e, with-slot-other j f) (h .disjoint i j p r ne)
