@@ -34,7 +34,7 @@ abbrev pub digitCarryOf : ℕ → ℕ → ℕ → ℕ
 digitCarryOf a b k = (a % 16 + b % 16 + k) / 16
 
 -- a signed byte plus 128, from 0 to 255: the sum of two signed bytes and a carry is a signed byte
--- exactly if that of the raised ones is from 128 to 383
+-- exactly if that of the biased ones is from 128 to 383
 abbrev pub biased : ℕ → ℕ
 biased a = (a + 128) % 256
 

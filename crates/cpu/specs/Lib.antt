@@ -12,8 +12,9 @@ pub mod Instruction
 pub mod State
 pub mod Machine
 pub mod WrtdSteps
--- Laws that the checker has shown, for the layers above.
+-- Names for lists of definitions.
 pub mod StepDefinitions
+-- Laws that the checker has shown, for the layers above.
 pub mod Cases
 pub mod RestLaws
 pub mod DecodeLaws

@@ -1,4 +1,4 @@
--- Definitions that must be believed: document 01's lone 2650, its step, and many steps.
+-- Definitions that must be believed: document 01's lone 2650, and its step.
 use Prim.Native.Nat.{_+_, ℕ}
 use lib.Dec.{eqb, leb, ltb}
 use lib.ListN.{drop, getD, length, set, take}

@@ -16,7 +16,7 @@ use Rattle.supervisor.specs.Table.{newTable, newRefusal}
 use Rattle.supervisor.specs.Loading.{partitionFor}
 use Rattle.loader.specs.Fresh.{freshState, freshBytes, freshMachine}
 use Rattle.listing.specs.Ascii.{ascii}
-use Rattle.listing.specs.BenchListing.{freshSystem, loading, fileRefusal, textOf, memoryAfter, longestText, listingOutcome, listingOf}
+use Rattle.listing.specs.BenchListing.{freshSystem, loadCall, fileRefusal, textOf, memoryAfter, longestText, listingOutcome, listingOf}
 use Rattle.listing.specs.LoneLaws.{aloneUntil, aloneReport, aloneLines, text-alone}
 use Rattle.cpu.specs.StepDefinitions.{step-definitions}
 use Rattle.pattern.specs.FileDefinitions.{file-definitions}
@@ -28,7 +28,7 @@ abbrev pub k10Before : System
 k10Before = system (newTable 24) (replicate 24 0)
 
 abbrev pub k10Loaded : System
-k10Loaded = afterCall (loading pattern.k10) k10Before
+k10Loaded = afterCall (loadCall pattern.k10) k10Before
 
 abbrev pub k10Text : List ℕ
 k10Text = ascii "2 0005 00 40 42 00 00 00 00 00 00\nout 42\n"
@@ -43,7 +43,7 @@ pub record WorkedCases : Type 0 where
       (memory text : List ℕ) → length memory ≡ 40960 → longestText ≤ length text
       → listingOf pattern.k10 memory text ≡ listingOutcome 0 41 (memoryAfter pattern.k10 memory) (k10Text ++ drop 41 text)
   -- K10's partition ends with its memory
-  pub ends-with-memory : refusal (loading pattern.k10) k10Before ≡ 0
+  pub ends-with-memory : refusal (loadCall pattern.k10) k10Before ≡ 0
   pub one-further : refusal (change 0 (load (record { 0 = 1 }) pattern.k10)) k10Before ≡ 12
   -- K11
   pub k11 :
@@ -51,7 +51,7 @@ pub record WorkedCases : Type 0 where
       ≡ record { refusal = 0; status = 1; counter = 3; registers = 0x42 ∷ 0 ∷ 0 ∷ 0 ∷ 0 ∷ 0 ∷ 0 ∷ []; psu = 0; psl = 0x40 }
   pub k11-written : slotOf (afterCall (run 1) k10Loaded) 0 .state .written ≡ 0
 
-k10-refusal : (memory : List ℕ) → length memory ≡ 40960 → refusal (loading pattern.k10) (freshSystem memory) ≡ 0
+k10-refusal : (memory : List ℕ) → length memory ≡ 40960 → refusal (loadCall pattern.k10) (freshSystem memory) ≡ 0
 unfolding file-definitions sound-definitions refusal-definitions newTable newRefusal partitionFor
 k10-refusal memory h = rw (eq-eqb (length memory) 40960 h)
 
@@ -63,7 +63,7 @@ k10-listing : (memory text : List ℕ) → length memory ≡ 40960 → longestTe
     → listingOf pattern.k10 memory text ≡ listingOutcome 0 41 (memoryAfter pattern.k10 memory) (k10Text ++ drop 41 text)
 unfolding listingOf fileRefusal refusalBy unless if_then_else_
 k10-listing memory text h room =
-    let none : refusal (loading pattern.k10) (freshSystem memory) ≡ 0 = k10-refusal memory h in
+    let none : refusal (loadCall pattern.k10) (freshSystem memory) ≡ 0 = k10-refusal memory h in
     let read : fileRefusal pattern.k10 memory ≡ 0 = rw none in
     let same : textOf pattern.k10 memory ≡ k10Text = text-alone pattern.k10 memory h read ∙ k10-alone in
     rw (le-ltb (length text) longestText room, eq-eqb (length memory) 40960 h, same)

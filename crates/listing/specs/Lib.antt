@@ -3,8 +3,9 @@ pub mod Ascii
 pub mod UntilStopped
 pub mod Text
 pub mod BenchListing
--- Laws that the checker has shown.
+-- Names for lists of definitions.
 pub mod TextDefinitions
+-- Laws that the checker has shown.
 pub mod TextLaws
 pub mod ListingLaws
 pub mod LoneLaws

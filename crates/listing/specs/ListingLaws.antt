@@ -26,7 +26,7 @@ use Rattle.supervisor.specs.RoundLaws.{DiffersByRunning, rounds-running}
 use Rattle.supervisor.specs.SoundLaws.{loaded-live, table-fact, table-test}
 use Rattle.supervisor.specs.Location.{outputLocation}
 use Rattle.supervisor.specs.IsolationTheorem.{run-accepted}
-use Rattle.listing.specs.BenchListing.{freshSystem, loading, finished}
+use Rattle.listing.specs.BenchListing.{freshSystem, loadCall, afterRounds}
 use Rattle.listing.specs.UntilStopped.{untilStopped}
 use Rattle.supervisor.specs.CallDefinitions.{sound-definitions, refusal-definitions}
 
@@ -39,15 +39,15 @@ unfolding sound-definitions newTable newRefusal refusalBy unless if_then_else_
 fresh-sound memory h = record { table = table-fact (newTable 40960) refl; fits = h }
 
 -- an accepted load
-pub load-after-accepted : (file : List ℕ) (x : System) → refusal (loading file) x ≡ 0 → afterCall (loading file) x ≡ patched x 0 (loadPatch (record { 0 = 0 }) file)
+pub load-after-accepted : (file : List ℕ) (x : System) → refusal (loadCall file) x ≡ 0 → afterCall (loadCall file) x ≡ patched x 0 (loadPatch (record { 0 = 0 }) file)
 unfolding afterCall afterAccepted patchOf if_then_else_
-load-after-accepted file x e = rw (eq-eqb (refusal (loading file) x) 0 e)
+load-after-accepted file x e = rw (eq-eqb (refusal (loadCall file) x) 0 e)
 
 load-slot : (file : List ℕ) (x : System) → SoundSystem x → isEmpty (slotOf (patched x 0 (loadPatch (record { 0 = 0 }) file)) 0) ≡ false
 unfolding loadPatch freshState
 load-slot file x g = ap isEmpty (patched-slot x g 0 (loadPatch (record { 0 = 0 }) file) (omega arith))
 
-pub load-ready : (file : List ℕ) (x : System) → SoundSystem x → refusal (loading file) x ≡ 0 → ReadySlot (afterCall (loading file) x) 0
+pub load-ready : (file : List ℕ) (x : System) → SoundSystem x → refusal (loadCall file) x ≡ 0 → ReadySlot (afterCall (loadCall file) x) 0
 unfolding patchOf
 load-ready file x g e =
     rw (load-after-accepted file x e)
@@ -92,9 +92,9 @@ until-done (suc n) x {b} e h =
     let s : eqb (slotOf x 0 .state .status) 1 ≡ false = sym e ∙ (rw (lt-ltb 0 (suc n) (omega arith)) at h) in
     rw s
 
-pub finished-ready : (file memory : List ℕ) → length memory ≡ 40960 → refusal (loading file) (freshSystem memory) ≡ 0 → ReadySlot (finished file memory) 0
-unfolding finished
-finished-ready file memory h e = until-keeps (λ (x : System). ReadySlot x 0) round-ready 1000 _ (load-ready file (freshSystem memory) (fresh-sound memory h) e)
+pub after-rounds-ready : (file memory : List ℕ) → length memory ≡ 40960 → refusal (loadCall file) (freshSystem memory) ≡ 0 → ReadySlot (afterRounds file memory) 0
+unfolding afterRounds
+after-rounds-ready file memory h e = until-keeps (λ (x : System). ReadySlot x 0) round-ready 1000 _ (load-ready file (freshSystem memory) (fresh-sound memory h) e)
 
 -- ---- report and output
 

@@ -30,9 +30,9 @@ use Rattle.supervisor.specs.RoundLaws.{rounds-running, rounds-machine}
 use Rattle.supervisor.specs.declared.reported.Report.{Report}
 use Rattle.supervisor.specs.declared.table.Partition.{Partition}
 use Rattle.supervisor.specs.declared.table.Slot.{Slot}
-use Rattle.listing.specs.BenchListing.{freshSystem, loading, finished, fileRefusal, linesAfter, textOf}
+use Rattle.listing.specs.BenchListing.{freshSystem, loadCall, afterRounds, fileRefusal, linesAfter, textOf}
 use Rattle.listing.specs.UntilStopped.{untilStopped}
-use Rattle.listing.specs.ListingLaws.{slot-loaded, fresh-sound, load-after-accepted, load-ready, round-after-accepted, round-ready, finished-ready, report-accepted}
+use Rattle.listing.specs.ListingLaws.{slot-loaded, fresh-sound, load-after-accepted, load-ready, round-after-accepted, round-ready, after-rounds-ready, report-accepted}
 use Rattle.listing.specs.Text.{linesOf}
 
 -- ---- the lone machine's lines
@@ -88,8 +88,8 @@ until-machine (suc n) x r =
 
 -- ---- the load
 
-load-machine : (file : List ℕ) (x : System) → SoundSystem x → refusal (loading file) x ≡ 0
-    → (slotMachine 0 (afterCall (loading file) x) ≡ freshMachine file) × (slotOf (afterCall (loading file) x) 0 .partition ≡ partitionFor (record { 0 = 0 }) (parametersOf file))
+load-machine : (file : List ℕ) (x : System) → SoundSystem x → refusal (loadCall file) x ≡ 0
+    → (slotMachine 0 (afterCall (loadCall file) x) ≡ freshMachine file) × (slotOf (afterCall (loadCall file) x) 0 .partition ≡ partitionFor (record { 0 = 0 }) (parametersOf file))
 unfolding partitionFor loadPatch patched machineIn freshMachine
 load-machine file x g e =
     let a : LoadAccepted x 0 (record { 0 = 0 }) file = load-accepted x 0 (record { 0 = 0 }) file refl e in
@@ -130,23 +130,23 @@ lines-alone : (x : System) → ReadySlot x 0 → linesAfter x ≡ aloneLines (sl
 unfolding linesAfter aloneLines
 lines-alone x r = rw (report-alone x r, written-alone x r)
 
-load-accepted-too : (file memory : List ℕ) → fileRefusal file memory ≡ 0 → refusal (loading file) (freshSystem memory) ≡ 0
+load-accepted-too : (file memory : List ℕ) → fileRefusal file memory ≡ 0 → refusal (loadCall file) (freshSystem memory) ≡ 0
 unfolding fileRefusal
 load-accepted-too file memory e =
-    eqb-true _ _ (not-false _ (none-holds (_ ∷ _ ∷ []) (λ z. omega arith, (given-numbered (refusal (loading file) (freshSystem memory)), tt)) e .1 .0))
+    eqb-true _ _ (not-false _ (none-holds (_ ∷ _ ∷ []) (λ z. omega arith, (given-numbered (refusal (loadCall file) (freshSystem memory)), tt)) e .1 .0))
 
 -- the text of a file that is not refused
 pub text-alone : (file memory : List ℕ) → length memory ≡ 40960 → fileRefusal file memory ≡ 0
     → textOf file memory ≡ aloneLines (aloneUntil 1000 (parametersOf file .quantum) (freshMachine file))
-unfolding textOf finished partitionFor if_then_else_
+unfolding textOf afterRounds partitionFor if_then_else_
 text-alone file memory h e =
-    let f : refusal (loading file) (freshSystem memory) ≡ 0 = load-accepted-too file memory e in
-    let x : System = afterCall (loading file) (freshSystem memory) in
+    let f : refusal (loadCall file) (freshSystem memory) ≡ 0 = load-accepted-too file memory e in
+    let x : System = afterCall (loadCall file) (freshSystem memory) in
     let g : SoundSystem (freshSystem memory) = fresh-sound memory h in
     let r : ReadySlot x 0 = load-ready file (freshSystem memory) g f in
     let m = load-machine file (freshSystem memory) g f in
     rw e
-    (lines-alone (finished file memory) (finished-ready file memory h f)
+    (lines-alone (afterRounds file memory) (after-rounds-ready file memory h f)
     ∙ ap aloneLines
     (until-machine 1000 x r
     ∙ ap (λ (p : Partition). aloneUntil 1000 (p .quantum) (slotMachine 0 x)) (m .1)

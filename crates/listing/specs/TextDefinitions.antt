@@ -1,4 +1,4 @@
--- A name for a list of definitions: `unfolding text-definitions` opens all that the text of the bench run is made of. Nothing here
+-- Names for lists of definitions: `unfolding text-definitions` opens all that the text of the bench run is made of. Nothing here
 -- has to be believed.
 use Rattle.listing.specs.Text.{decimalDigits, field, fields, hexByte, hexDigit, hexWord, linesOf, outputLine, refusedLine, reportLine}
 

@@ -1,2 +1,2 @@
 -- Laws that only proofs need.
-pub mod FreshParts
+pub mod FreshPartLaws

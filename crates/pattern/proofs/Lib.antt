@@ -1,2 +1,3 @@
+-- Laws that only proofs need.
 pub mod ReadingLaws
 pub mod WritingLaws

@@ -1,10 +1,12 @@
--- The files of this folder. Definitions that must be believed: Values, Frame, Image, Reader, Writer.
--- Laws that the checker has shown: the files whose names end in Laws, RoundTrip, Theorems, Cases.
+-- Definitions that must be believed, in reading order.
 pub mod Parameters
 pub mod Frame
 pub mod Image
 pub mod Reader
 pub mod Writer
+-- Names for lists of definitions.
+pub mod FileDefinitions
+-- Laws that the checker has shown: Theorems has what a reader wants, the others carry it.
 pub mod ParameterLaws
 pub mod FrameLaws
 pub mod ImageLaws
@@ -12,5 +14,4 @@ pub mod ReaderLaws
 pub mod WriterLaws
 pub mod RoundTripLaws
 pub mod Theorems
-pub mod FileDefinitions
 pub mod Cases

@@ -1,1 +1,2 @@
-pub mod Stores
+-- Laws that only proofs need.
+pub mod StoreLaws

@@ -14,6 +14,8 @@ pub mod Reporting
 pub mod Calls
 pub mod Events
 pub mod Isolation
+-- Names for lists of definitions.
+pub mod CallDefinitions
 -- Laws that the checker has shown: IsolationTheorem is demand 3, the others carry it.
 pub mod SoundLaws
 pub mod ConditionLaws
@@ -21,6 +23,5 @@ pub mod SlotMachineLaws
 pub mod PatchLaws
 pub mod RoundLaws
 pub mod OutcomeLaws
-pub mod CallDefinitions
 pub mod ChangeLaws
 pub mod IsolationTheorem

@@ -1,10 +1,10 @@
--- `loader::fresh::put_fresh_bytes`: a refused file and one without room leave the memory (FreshParts.antt).
+-- `loader::fresh::put_fresh_bytes`: a refused file and one without room leave the memory (FreshPartLaws.antt).
 use mathlib.Core.Path.{_∙_, ap, sym}
 use native.Mathlib.Omega.{arith}
 use denote.Ref.{now}
 use Rattle.pattern.specs.ReaderLaws.{code-fits, input-fits}
 use Rattle.slices.specs.Slices.{copied}
-use Rattle.loader.proofs.FreshParts.{put-refused, put-left, put-parts}
+use Rattle.loader.proofs.FreshPartLaws.{put-refused, put-left, put-parts}
 use borrow.Author.Needs.{needs}
 use Rattle.loader.proofs.fresh.put_fresh_bytes.Statement.{statement}
 use Rattle.loader.proofs.fresh.put_fresh_bytes.Tie as tie

@@ -1,11 +1,11 @@
--- `loader::fresh::put_parts`: three stretches, each behind the one before, are one (FreshParts.antt).
+-- `loader::fresh::put_parts`: three stretches, each behind the one before, are one (FreshPartLaws.antt).
 use Prim.Native.Nat.{ℕ}
 use native.Mathlib.Omega.{arith}
 use lib.ListN.{replicate, length-replicate}
 use denote.Ref.{now}
 use Rattle.pattern.specs.Image.{padded}
 use Rattle.pattern.specs.ImageLaws.{padded-length}
-use Rattle.loader.proofs.FreshParts.{three-parts}
+use Rattle.loader.proofs.FreshPartLaws.{three-parts}
 use borrow.Author.Needs.{needs}
 use Rattle.loader.proofs.fresh.put_parts.Statement.{statement}
 use Rattle.loader.proofs.fresh.put_parts.Tie as tie

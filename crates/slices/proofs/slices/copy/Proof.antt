@@ -1,11 +1,11 @@
--- `slices::slices::copy`: each iteration stores one byte of the source (Stores.antt).
+-- `slices::slices::copy`: each iteration stores one byte of the source (StoreLaws.antt).
 use Prim.Native.Nat.{_-_}
 use denote.Ref.{now}
 use lib.ListN.{length}
 use mathlib.Core.Path.{sym}
 use native.Mathlib.Omega.{arith}
 use Rattle.slices.specs.SliceLaws.{copied-left}
-use Rattle.slices.proofs.Stores.{Stored, stored-none, stored-more, stored-all}
+use Rattle.slices.proofs.StoreLaws.{Stored, stored-none, stored-more, stored-all}
 use Rattle.slices.proofs.slices.copy.Statement.{statement}
 use Rattle.slices.proofs.slices.copy.Tie as tie
 

@@ -1,11 +1,11 @@
--- `slices::slices::fill`: a copy of n times the value, each iteration one byte (Stores.antt).
+-- `slices::slices::fill`: a copy of n times the value, each iteration one byte (StoreLaws.antt).
 use Prim.Native.Nat.{_-_}
 use mathlib.Core.Path.{sym}
 use native.Mathlib.Omega.{arith}
 use lib.ListN.{replicate, length-replicate, getD-replicate}
 use denote.Ref.{now}
 use Rattle.slices.specs.SliceLaws.{copied-left}
-use Rattle.slices.proofs.Stores.{Stored, stored-none, stored-more, stored-all}
+use Rattle.slices.proofs.StoreLaws.{Stored, stored-none, stored-more, stored-all}
 use Rattle.slices.proofs.slices.fill.Statement.{statement}
 use Rattle.slices.proofs.slices.fill.Tie as tie
 
