@@ -119,12 +119,12 @@ static size_t no_slot(void)
     return ONE_OF(starts) + (one_in(3) ? 0 : below(SLOTS));
 }
 
-static size_t slot_for(const ref_table *table, slot_test best, slot_test good)
+static size_t slot_for(const ref_table *table, slot_test best, slot_test second)
 {
     if (one_in(30)) return no_slot();
     if (one_in(10)) return below(SLOTS);
     size_t k = find_slot(table, best);
-    if (k == SLOTS || one_in(6)) k = find_slot(table, good);
+    if (k == SLOTS || one_in(6)) k = find_slot(table, second);
     if (k == SLOTS && !one_in(4)) k = find_slot(table, is_taken);
     return k == SLOTS ? below(SLOTS) : k;
 }

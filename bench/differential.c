@@ -91,17 +91,17 @@ static void disturb(system_pair *both, counts *n)
 }
 
 /* After a call the list goes on with the table, if it is sound and for this memory, or with the last one that was
- * (`good`). A new table for another length gets a memory of it. */
-static void settle(system_pair *both, const call *c, uint8_t good[PF_TABLE_BYTES])
+ * (`last_sound`). A new table for another length gets a memory of it. */
+static void keep_sound_table(system_pair *both, const call *c, uint8_t last_sound[PF_TABLE_BYTES])
 {
     if (c->kind == CALL_NEW && !c->refusal && c->length != both->memory.length) {
         pair_free(&both->memory);
         both->memory = pair_new("memory", c->length);
     }
     if (ref_sound(&both->reference_table) && both->reference_table.memory_length == both->memory.length) {
-        encode_table(&both->reference_table, good);
+        encode_table(&both->reference_table, last_sound);
     } else {
-        decode_table(good, &both->reference_table);
+        decode_table(last_sound, &both->reference_table);
         give_table(both);
     }
 }
@@ -171,7 +171,7 @@ static void count(const call *c, const system_pair *both, counts *n)
 
 static int enough(const counts *n, const wanted *w) { return n->calls >= w->calls && n->steps >= w->steps; }
 
-static int one_call(system_pair *both, enum kind kind, uint8_t *good, counts *n)
+static int one_call(system_pair *both, enum kind kind, uint8_t *last_sound, counts *n)
 {
     call c;
     now.kind = kind;
@@ -181,7 +181,7 @@ static int one_call(system_pair *both, enum kind kind, uint8_t *good, counts *n)
     difference d = call_difference(&c, both);
     count(&c, both, n);
     if (d.what) print_difference(&c, &d);
-    else settle(both, &c, good);
+    else keep_sound_table(both, &c, last_sound);
     call_free(&c);
     return d.what == NULL;
 }
@@ -193,15 +193,15 @@ static int run_list(uint64_t seed, const wanted *w, counts *n)
     now.list_seed = seed;
     now.list_calls = 0;
     int sound = one_in(2);
-    uint8_t good[PF_TABLE_BYTES];
+    uint8_t last_sound[PF_TABLE_BYTES];
     system_pair both = system_pair_new(sound);
     ref_table empty;
     ref_new(&empty, both.memory.length);
-    encode_table(sound ? &both.reference_table : &empty, good);
-    int alike = sound || one_call(&both, CALL_NEW, good, n);
+    encode_table(sound ? &both.reference_table : &empty, last_sound);
+    int alike = sound || one_call(&both, CALL_NEW, last_sound, n);
     for (size_t left = between(20, 300); left && alike && !enough(n, w); left--) {
         disturb(&both, n);
-        alike = one_call(&both, some_kind(&both.reference_table), good, n);
+        alike = one_call(&both, some_kind(&both.reference_table), last_sound, n);
     }
     system_pair_free(&both);
     n->lists++;
