@@ -5,12 +5,12 @@ usage: make_data.py floor.txt edges.txt scripts.bin
 
 The head of floor.txt gives the lines of a script; edges.txt has the same lines. An entry of scripts.bin: ten two-byte numbers,
 high byte first (kind, line, slot, wanted refusal, a four-byte number, field or count, length of the bytes), two of them spare
-and zero, then the bytes. A `lent` line (collecting over the one station's record) is run as a drain over a table that has that
-slot alone, for a memory of the lent length.
+and zero, then the bytes. A `lent` line (collecting over one station's record) drains the slot itself, lent by reference, with a
+memory of the lent length.
 """
 import sys
 
-NEW_SCRIPT, NEW, LEND, POKE, UNPOKE, LOAD, UNLOAD, FEED, DRAIN, RUN, REPORT, STATE, ALONE = range(13)
+NEW_SCRIPT, NEW, LEND, POKE, UNPOKE, LOAD, UNLOAD, FEED, DRAIN, RUN, REPORT, STATE, DRAIN_LENT = range(13)
 FIELDS = ("bay window icap ocap stint status pc psu psl r0 b0 b1 b2 b3 b4 b5 "
           "ras0 ras1 ras2 ras3 ras4 ras5 ras6 ras7 filled read written length").split()
 SLOT_FIELDS = 27
@@ -44,7 +44,7 @@ def call(line, given, wanted):
     if name == "feed":
         return entry(FEED, line, slot, refusal, 0, 0, raw(args[1]))
     if name in ("collect", "lent"):
-        return entry(DRAIN if name == "collect" else ALONE, line, slot, refusal, int(args[1]), int(wanted[1]), raw(wanted[2]))
+        return entry(DRAIN if name == "collect" else DRAIN_LENT, line, slot, refusal, int(args[1]), int(wanted[1]), raw(wanted[2]))
     assert name == "report", name
     numbers = [int(wanted[1])] + [int(n, 16) for n in wanted[2:]] if refusal == 0 else [0] * 11
     return entry(REPORT, line, slot, refusal, 0, 0, words(numbers))
