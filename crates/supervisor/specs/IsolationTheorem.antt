@@ -1,5 +1,5 @@
 -- Laws that the checker has shown: demand 3, for any sound table, any memory of its length and any list of events.
--- The statement is `Isolation` in Events.antt; `isolation`, at the end of this file, proves it. Nothing is assumed.
+-- The statement is `Isolation` in Isolation.antt; `isolation`, at the end of this file, proves it. Nothing is assumed.
 use mathlib.Core.Bool.{Bool, true, false}
 use mathlib.Core.List.{List, [], _∷_}
 use mathlib.Core.Logic.{_≢_, inl, inr}

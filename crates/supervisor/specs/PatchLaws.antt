@@ -82,17 +82,17 @@ module _ (x : System) (g : SoundSystem x) (k : ℕ) (p : Patch) where
   unfolding patched
   patched-others j ne = with-slot-other (x .table) k (p .slot) j ne
 
-  -- clear of a partition that is clear of the home
-  away : (s : Slot) → WritesInside s p → (q : Partition) → Apart q (s .partition) → (partitionEnd q ≤ p .place .0) ⊎ (p .place .0 + length (p .bytes) ≤ q .base .0)
-  away s h q a = go (apart-cases q (s .partition) a)
+  -- what is written does not meet a partition that is apart from the one written in
+  written-apart : (s : Slot) → WritesInside s p → (q : Partition) → Apart q (s .partition) → (partitionEnd q ≤ p .place .0) ⊎ (p .place .0 + length (p .bytes) ≤ q .base .0)
+  written-apart s h q a = go (apart-cases q (s .partition) a)
     where
       go : (partitionEnd q ≤ s .partition .base .0) ⊎ (partitionEnd (s .partition) ≤ q .base .0) → (partitionEnd q ≤ p .place .0) ⊎ (p .place .0 + length (p .bytes) ≤ q .base .0)
       go (inl u) = inl (omega (arith, h .from))
       go (inr u) = inr (omega (arith, h .to))
 
-  -- a byte outside the home is not written
-  unwritten : (s : Slot) → WritesInside s p → (i : ℕ) → inPartition s i ≡ false → getD (copied (x .memory) (p .place .0) (p .bytes)) i 0 ≡ getD (x .memory) i 0
-  unwritten s h i o = go (outside-partition s i o (h .loaded))
+  -- a byte outside the partition that is written in is as it was
+  outside-unwritten : (s : Slot) → WritesInside s p → (i : ℕ) → inPartition s i ≡ false → getD (copied (x .memory) (p .place .0) (p .bytes)) i 0 ≡ getD (x .memory) i 0
+  outside-unwritten s h i o = go (outside-partition s i o (h .loaded))
     where
       go : OutsidePartition (s .partition) i → getD (copied (x .memory) (p .place .0) (p .bytes)) i 0 ≡ getD (x .memory) i 0
       go (inl u) = byte-before-copy (x .memory) (p .place .0) (p .bytes) i (omega (arith, h .from))
@@ -116,12 +116,12 @@ module _ (x : System) (g : SoundSystem x) (k : ℕ) (p : Patch) where
       }
     where
       clear : (j : ℕ) → j < 8 → j ≢ k → WritesInside (slotOf x k) p ⊎ WritesInside (p .slot) p → (partitionEnd (slotOf x j .partition) ≤ p .place .0) ⊎ (p .place .0 + length (p .bytes) ≤ slotOf x j .partition .base .0)
-      clear j q ne (inl h) = away (slotOf x k) h (slotOf x j .partition) (g .table .disjoint j k q (f .slot) ne)
-      clear j q ne (inr h) = away (p .slot) h (slotOf x j .partition) (f .clear j q ne)
+      clear j q ne (inl h) = written-apart (slotOf x k) h (slotOf x j .partition) (g .table .disjoint j k q (f .slot) ne)
+      clear j q ne (inr h) = written-apart (p .slot) h (slotOf x j .partition) (f .clear j q ne)
 
       bytes : (i : ℕ) → InNoPartition i x → InNoPartition i (patched x k p) → WritesInside (slotOf x k) p ⊎ WritesInside (p .slot) p → getD (copied (x .memory) (p .place .0) (p .bytes)) i 0 ≡ getD (x .memory) i 0
-      bytes i h₀ h₁ (inl h) = unwritten (slotOf x k) h i (h₀ k (f .slot))
-      bytes i h₀ h₁ (inr h) = unwritten (p .slot) h i (subst (λ (s : Slot). inPartition s i ≡ false) (patched-slot (f .slot)) (h₁ k (f .slot)))
+      bytes i h₀ h₁ (inl h) = outside-unwritten (slotOf x k) h i (h₀ k (f .slot))
+      bytes i h₀ h₁ (inr h) = outside-unwritten (p .slot) h i (subst (λ (s : Slot). inPartition s i ≡ false) (patched-slot (f .slot)) (h₁ k (f .slot)))
 
 -- another state in the partition of a loaded slot, and bytes in it
 pub state-fits : (x : System) (k : ℕ) → HoldsPattern (x .table) k → (z : State) (place : Location) (bytes : List ℕ) → StateSound (slotOf x k .partition .layout) z
