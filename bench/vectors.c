@@ -70,6 +70,10 @@ int vectors(const char *path)
     unsigned count = 0, different = 0;
     for (size_t at = 0; at < size; count++) {
         entry e = entry_at(data + at);
+        if (entry_length(&e) > size - at) {
+            printf("%s ends inside an entry\n", path);
+            return 1;
+        }
         different += !agrees(&e);
         at += entry_length(&e);
     }

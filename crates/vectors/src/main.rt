@@ -36,14 +36,26 @@ fn counted(tally: Tally, accepted: bool, same: bool) -> Tally {
     }
 }
 
-// The tally with one entry more. All three comparisons are made, so that each prints its difference.
+// Whether all of the entry is there: data that is cut would be compared as far as it goes.
+fn is_whole(entry: &[u8]) -> bool {
+    if length(entry) <= entry.len() {
+        return true;
+    }
+    print(b"the data ends inside an entry\n");
+    false
+}
+
+// The tally with one entry more. All comparisons are made, so that each prints its difference.
 fn compare(entry: &[u8], tally: Tally) -> Tally {
     let mut space = [0u8; 65536];
     let size = unpack(packed(entry), &mut space);
     let file = front(&space, size);
     let read = pattern::read(file);
     let accepted = read.refusal() == 0;
-    let same = same_reading(entry, file) & same_again(entry, file) & same_text(entry, file);
+    let same = is_whole(entry)
+        & same_reading(entry, file)
+        & same_again(entry, file)
+        & same_text(entry, file);
     counted(tally, accepted, same)
 }
 
