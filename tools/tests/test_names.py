@@ -86,6 +86,34 @@ class Names(Case):
         self.assertEqual(self.rows(files), [])
 
 
+class Functions(Case):
+    """A function that has a definition's name is held to it."""
+
+    def rows_of(self, contract, definition="runQuantum"):
+        code = f"// fn gone() {{}}\nfn run_quantum() -> u8\n    {contract}\n{{\n    0\n}}\n"
+        return self.rows({"a/src/lib.rt": code, "a/specs/Lib.antt": laws(definition, "gone")})
+
+    def test_another_definition_is_cited(self):
+        rows = self.rows_of("ensures { λ r. ⌜ r ≡ afterQuantum ⌝ }")
+        self.assertEqual(rows, ["crates/a/src/lib.rt:2: fn run_quantum is not held to runQuantum of "
+                                "crates/a/specs/Lib.antt:2"])
+
+    def test_the_definition_with_of(self):
+        self.assertEqual(len(self.rows_of("", "runQuantumOf")), 1)
+
+    def test_the_definition_is_cited(self):
+        for name in ("runQuantum", "runQuantumOf"):
+            self.assertEqual(self.rows_of(f"ensures {{ λ r. ⌜ r ≡ {name} ⌝ }}", name), [])
+
+    def test_the_contract_of_the_next_function_does_not_count(self):
+        next_one = "{\n    0\n}\nfn other() -> u8\n    ensures { λ r. ⌜ r ≡ runQuantum ⌝ }"
+        self.assertEqual(len(self.rows_of(next_one)), 1)
+
+    def test_a_definition_of_another_crate(self):
+        files = {"a/src/lib.rt": "fn run_quantum() {\n}\n", "b/specs/Two.antt": laws("runQuantum")}
+        self.assertEqual(self.rows(files), [])
+
+
 class Files(Case):
     """Files of one name, and files of src/ without definitions of their name."""
 
@@ -121,6 +149,42 @@ class Files(Case):
         self.assertEqual(self.rows({"a/src/table.rt": code, "b/specs/Other.antt": laws("x")}), [])
 
 
+class Pages(Case):
+    """A page names what there is."""
+
+    def rows_of(self, text, path="docs/REVIEW.md"):
+        page = self.root / path
+        page.parent.mkdir(exist_ok=True)
+        page.write_text(text, encoding="utf-8")
+        return self.rows({"a/src/alu.rt": "fn add() {\n}\n", "a/specs/Alu.antt": laws("sum-of")})
+
+    def test_names_that_there_are(self):
+        self.assertEqual(self.rows_of("`add` and `sum-of` are in `a/src/` and `a/specs/Alu`."), [])
+
+    def test_a_name_that_is_gone(self):
+        rows = self.rows_of("One line.\nThe law `sum-gone add` is a law.\n")
+        self.assertEqual(rows, ["docs/REVIEW.md:2: sum-gone stands in no file of the project"])
+
+    def test_a_name_that_only_another_page_has(self):
+        (self.root / "README.md").write_text("the gone one", encoding="utf-8")
+        self.assertEqual(len(self.rows_of("`gone`")), 1)
+
+    def test_words_without_backquotes_and_other_pages(self):
+        self.assertEqual(self.rows_of("gone"), [])
+        self.assertEqual(self.rows_of("`gone`", "docs/CONTRIBUTING.md"), [])
+
+    def test_a_name_that_stands_for_many(self):
+        self.assertEqual(self.rows_of("`..Gone`, `gone..` and `gone_..`"), [])
+
+    def test_a_name_in_another_file(self):
+        rows = self.rows_of("The law\n`add`, `sum-of` in\n`a/src/alu.rt` is told.")
+        self.assertEqual(rows, ["docs/REVIEW.md:3: sum-of does not stand in crates/a/src/alu.rt"])
+
+    def test_names_in_a_file_without_its_ending(self):
+        self.assertEqual(self.rows_of("`sum-of` in `a/specs/Alu`"), [])
+        self.assertEqual(len(self.rows_of("`add` and `sum-of` in `a/specs/Alu`")), 1)
+
+
 class Project(Case):
     """What the tool looks at, and how it ends."""
 
@@ -133,7 +197,9 @@ class Project(Case):
         self.rows({"a/specs/One.antt": laws("x"), "b/specs/One.antt": laws("x")})
         self.assertEqual(self.run_tool().stdout.splitlines()[-1],
                          "names declared again: 1, files of one name: 1, "
-                         "files without definitions of their name: 0")
+                         "files without definitions of their name: 0, "
+                         "functions not held to the definition of their name: 0, "
+                         "names on pages that are gone: 0")
 
     def test_no_project(self):
         (self.root / "crates").rmdir()

@@ -3,13 +3,14 @@
 use mathlib.Core.Bool.{Bool}
 use mathlib.Core.List.{[], _∷_}
 use Prim.Native.Nat.{ℕ, _+_}
-use Rattle.common.specs.Ranges.{within}
+use Rattle.common.specs.Ranges.{isWithin}
 use Rattle.common.specs.Tests.{all}
 use Rattle.common.specs.declared.layout.Layout.{Layout}
 
+-- window, input and output stand without gaps
 abbrev pub layoutSize : Layout → ℕ
 layoutSize l = l .window + l .input + l .output
 
 -- a window of 1 to 32,768 bytes, and capacities of 1 to 4,096
 unfoldable pub layoutSound : Layout → Bool
-layoutSound l = all (within (l .window) 32768 ∷ within (l .input) 4096 ∷ within (l .output) 4096 ∷ [])
+layoutSound l = all (isWithin (l .window) 32768 ∷ isWithin (l .input) 4096 ∷ isWithin (l .output) 4096 ∷ [])

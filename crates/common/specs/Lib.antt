@@ -5,6 +5,8 @@ pub mod Ranges
 pub mod Refusals
 pub mod Repetition
 pub mod Layout
+-- Names for lists of definitions.
+pub mod RefusalDefinitions
 -- Laws that the checker has shown.
 pub mod TestLaws
 pub mod RefusalLaws

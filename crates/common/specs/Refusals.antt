@@ -9,6 +9,7 @@ pub record Condition : Type 0 where
   pub holds : Bool
   pub number : ℕ
 
+-- a condition as its test and its number: `ltb 7 k gives 3`
 infix 70 _gives_
 abbrev pub _gives_ : Bool → ℕ → Condition
 b gives n = record { holds = b; number = n }

@@ -8,7 +8,7 @@ use native.Mathlib.Decide.{ℕ-discrete}
 use native.Mathlib.Omega.{arith}
 use borrow.Author.Tests.{leb-true, le-leb, eqb-true, eq-eqb, ne-eqb}
 use lib.Dec.{eqb, leb}
-use Rattle.common.specs.Ranges.{within}
+use Rattle.common.specs.Ranges.{isWithin}
 use Rattle.common.specs.Tests.{allAfter, all, allBelow}
 
 -- ---- two tests
@@ -62,10 +62,10 @@ pub record Within (n most : ℕ) : Type 0 where
   pub some : 1 ≤ n
   pub fits : n ≤ most
 
-pub within-fact : (n most : ℕ) → within n most ≡ true → Within n most
+pub within-fact : (n most : ℕ) → isWithin n most ≡ true → Within n most
 within-fact n most h = let p = and-fact (leb 1 n) (leb n most) h in record { some = leb-true 1 n (p .0); fits = leb-true n most (p .1) }
 
-pub within-test : (n most : ℕ) → Within n most → within n most ≡ true
+pub within-test : (n most : ℕ) → Within n most → isWithin n most ≡ true
 within-test n most w = and-test (leb 1 n) (leb n most) (le-leb 1 n (w .some)) (le-leb n most (w .fits))
 
 -- ---- a list of tests

@@ -3,15 +3,16 @@ use Prim.Native.Nat.{suc, zero, ℕ}
 use mathlib.Core.Bool.{Bool, _&&_, true}
 use mathlib.Core.List.{List, [], _∷_}
 
--- every test of a list holds; they are looked at from the front, behind one that is known
+-- a test that was made before holds, and every test of a list: they are looked at from the front
 unfoldable pub allAfter : Bool → List Bool → Bool
 allAfter held [] = held
 allAfter held (b ∷ bs) = allAfter (held && b) bs
 
+-- every test of a list holds
 abbrev pub all : List Bool → Bool
 all bs = allAfter true bs
 
--- a test of every number below n
+-- a test holds of every number below n
 unfoldable pub allBelow : ℕ → (ℕ → Bool) → Bool
 allBelow zero test = true
 allBelow (suc n) test = allBelow n test && test n

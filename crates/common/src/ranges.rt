@@ -1,10 +1,10 @@
 // Ranges of numbers.
 ghost use mathlib.Core.Path.{_≡_};
-ghost use Rattle.common.specs.Ranges.{within};
+ghost use Rattle.common.specs.Ranges.{isWithin};
 
 // Whether `n` is 1 to `most`.
 pub fn is_within(n: usize, most: usize) -> bool
-    ensures { λ r. ⌜ r ≡ within n most ⌝ }
+    ensures { λ r. ⌜ r ≡ isWithin n most ⌝ }
 {
     (1 <= n) & (n <= most)
 }

@@ -6,27 +6,27 @@ use native.Mathlib.Omega.{arith}
 use lib.ListN.{getD, set, length}
 use Rattle.common.specs.Choice.{if_then_else_}
 use Rattle.cpu.specs.PackedCpu.{byteAt, setByte, quarterAt, setQuarter, registerBytes, returnQuarters, inBankOrder, cpuOf}
-use Rattle.cpu.specs.Result.{StepResult, Store, Put, endedOf}
+use Rattle.cpu.specs.Result.{StepResult, Store, Put, stepResult}
 use Rattle.cpu.specs.Cpu.{registerIndex, withCounter, withPsu, withPsl}
 use Rattle.common.specs.declared.places.Address.{Address}
 use Rattle.cpu.specs.declared.packed_cpu.PackedCpu.{PackedCpu}
 use Rattle.cpu.specs.declared.cpu.Cpu.{Cpu}
 
 -- lists of seven and of eight, part by part
-pub seven-law : {a b c d e f g a' b' c' d' e' f' g' : ℕ} → a ≡ a' → b ≡ b' → c ≡ c' → d ≡ d' → e ≡ e' → f ≡ f' → g ≡ g' → (a ∷ b ∷ c ∷ d ∷ e ∷ f ∷ g ∷ []) ≡ (a' ∷ b' ∷ c' ∷ d' ∷ e' ∷ f' ∷ g' ∷ [])
-seven-law p q r s t u v = rw (p, q, r, s, t, u, v)
+pub register-list-equal : {a b c d e f g a' b' c' d' e' f' g' : ℕ} → a ≡ a' → b ≡ b' → c ≡ c' → d ≡ d' → e ≡ e' → f ≡ f' → g ≡ g' → (a ∷ b ∷ c ∷ d ∷ e ∷ f ∷ g ∷ []) ≡ (a' ∷ b' ∷ c' ∷ d' ∷ e' ∷ f' ∷ g' ∷ [])
+register-list-equal p q r s t u v = rw (p, q, r, s, t, u, v)
 
-eight-law : {a b c d e f g h a' b' c' d' e' f' g' h' : ℕ} → a ≡ a' → b ≡ b' → c ≡ c' → d ≡ d' → e ≡ e' → f ≡ f' → g ≡ g' → h ≡ h' → (a ∷ b ∷ c ∷ d ∷ e ∷ f ∷ g ∷ h ∷ []) ≡ (a' ∷ b' ∷ c' ∷ d' ∷ e' ∷ f' ∷ g' ∷ h' ∷ [])
-eight-law p q r s t u v w = rw (p, q, r, s, t, u, v, w)
+return-list-equal : {a b c d e f g h a' b' c' d' e' f' g' h' : ℕ} → a ≡ a' → b ≡ b' → c ≡ c' → d ≡ d' → e ≡ e' → f ≡ f' → g ≡ g' → h ≡ h' → (a ∷ b ∷ c ∷ d ∷ e ∷ f ∷ g ∷ h ∷ []) ≡ (a' ∷ b' ∷ c' ∷ d' ∷ e' ∷ f' ∷ g' ∷ h' ∷ [])
+return-list-equal p q r s t u v w = rw (p, q, r, s, t, u, v, w)
 
 -- a byte of the register word put in the bank in use, or R0
-set-byte : (x r v : ℕ) → r < 4 → v < 256 → registerBytes (setByte x r v) ≡ set (registerBytes x) r v
+register-bytes-set : (x r v : ℕ) → r < 4 → v < 256 → registerBytes (setByte x r v) ≡ set (registerBytes x) r v
 unfolding registerBytes
-set-byte x zero v l b = seven-law (omega arith) (omega arith) (omega arith) (omega arith) (omega arith) (omega arith) (omega arith)
-set-byte x (suc zero) v l b = seven-law (omega arith) (omega arith) (omega arith) (omega arith) (omega arith) (omega arith) (omega arith)
-set-byte x (suc (suc zero)) v l b = seven-law (omega arith) (omega arith) (omega arith) (omega arith) (omega arith) (omega arith) (omega arith)
-set-byte x (suc (suc (suc zero))) v l b = seven-law (omega arith) (omega arith) (omega arith) (omega arith) (omega arith) (omega arith) (omega arith)
-set-byte x (suc (suc (suc (suc i)))) v l b = absurd (omega arith)
+register-bytes-set x zero v l b = register-list-equal (omega arith) (omega arith) (omega arith) (omega arith) (omega arith) (omega arith) (omega arith)
+register-bytes-set x (suc zero) v l b = register-list-equal (omega arith) (omega arith) (omega arith) (omega arith) (omega arith) (omega arith) (omega arith)
+register-bytes-set x (suc (suc zero)) v l b = register-list-equal (omega arith) (omega arith) (omega arith) (omega arith) (omega arith) (omega arith) (omega arith)
+register-bytes-set x (suc (suc (suc zero))) v l b = register-list-equal (omega arith) (omega arith) (omega arith) (omega arith) (omega arith) (omega arith) (omega arith)
+register-bytes-set x (suc (suc (suc (suc i)))) v l b = absurd (omega arith)
 
 -- the bank in use stands first: register r is byte r, whichever bank that is
 pub get-register : (rs x r : ℕ) → rs < 2 → r < 4 → byteAt x r ≡ getD (inBankOrder rs (registerBytes x)) (registerIndex rs r) 0
@@ -58,7 +58,7 @@ set-in-bank-order (suc zero) x (suc (suc (suc (suc i)))) v k l = absurd (omega a
 set-in-bank-order (suc (suc rs)) x r v k l = absurd (omega arith)
 
 pub set-register : (rs x r v : ℕ) → rs < 2 → r < 4 → v < 256 → inBankOrder rs (registerBytes (setByte x r v)) ≡ set (inBankOrder rs (registerBytes x)) (registerIndex rs r) v
-set-register rs x r v k l b = ap (inBankOrder rs) (set-byte x r v l b) ∙ set-in-bank-order rs x r v k l
+set-register rs x r v k l b = ap (inBankOrder rs) (register-bytes-set x r v l b) ∙ set-in-bank-order rs x r v k l
 
 -- the banks exchanged in the word, and RS with them
 pub swap-twice : (rs rs' x : ℕ) → rs < 2 → rs' < 2 → (rs' ≡ rs → ⊥) → inBankOrder rs' (inBankOrder 1 (registerBytes x)) ≡ inBankOrder rs (registerBytes x)
@@ -71,34 +71,34 @@ swap-twice zero (suc (suc r)) x p q n = absurd (omega arith)
 swap-twice (suc zero) (suc (suc r)) x p q n = absurd (omega arith)
 swap-twice (suc (suc r)) rs' x p q n = absurd (omega arith)
 
-triples : (a m n : ℕ) → a < 256 → m < 16777216 → registerBytes (a + m * 256 + n * 4294967296) ≡ (a ∷ m % 256 ∷ m / 256 % 256 ∷ m / 65536 % 256 ∷ n % 256 ∷ n / 256 % 256 ∷ n / 65536 % 256 ∷ [])
+register-bytes-by-banks : (a m n : ℕ) → a < 256 → m < 16777216 → registerBytes (a + m * 256 + n * 4294967296) ≡ (a ∷ m % 256 ∷ m / 256 % 256 ∷ m / 65536 % 256 ∷ n % 256 ∷ n / 256 % 256 ∷ n / 65536 % 256 ∷ [])
 unfolding registerBytes
-triples a m n p q = seven-law (omega arith) (omega arith) (omega arith) (omega arith) (omega arith) (omega arith) (omega arith)
+register-bytes-by-banks a m n p q = register-list-equal (omega arith) (omega arith) (omega arith) (omega arith) (omega arith) (omega arith) (omega arith)
 
 -- with any byte above the seven
-pub swapped-below : (x u : ℕ) → registerBytes (x % 256 + x / 4294967296 % 16777216 * 256 + (x / 256 % 16777216 + u * 16777216) * 4294967296) ≡ inBankOrder 1 (registerBytes x)
+pub swapped-registers : (x u : ℕ) → registerBytes (x % 256 + x / 4294967296 % 16777216 * 256 + (x / 256 % 16777216 + u * 16777216) * 4294967296) ≡ inBankOrder 1 (registerBytes x)
 unfolding registerBytes inBankOrder if_then_else_
-swapped-below x u =
-    triples (x % 256) (x / 4294967296 % 16777216) (x / 256 % 16777216 + u * 16777216) (omega arith) (omega arith)
-    ∙ seven-law (omega arith) (omega arith) (omega arith) (omega arith) (omega arith) (omega arith) (omega arith)
+swapped-registers x u =
+    register-bytes-by-banks (x % 256) (x / 4294967296 % 16777216) (x / 256 % 16777216 + u * 16777216) (omega arith) (omega arith)
+    ∙ register-list-equal (omega arith) (omega arith) (omega arith) (omega arith) (omega arith) (omega arith) (omega arith)
 
-pub swapped-law : (x : ℕ) → registerBytes (x % 256 + x / 4294967296 % 16777216 * 256 + x / 256 % 16777216 * 4294967296) ≡ inBankOrder 1 (registerBytes x)
-swapped-law x =
+pub swap-banks-law : (x : ℕ) → registerBytes (x % 256 + x / 4294967296 % 16777216 * 256 + x / 256 % 16777216 * 4294967296) ≡ inBankOrder 1 (registerBytes x)
+swap-banks-law x =
     let e : x / 256 % 16777216 ≡ x / 256 % 16777216 + 0 * 16777216 = omega arith in
-    ap (λ (n : ℕ). registerBytes (x % 256 + x / 4294967296 % 16777216 * 256 + n * 4294967296)) e ∙ swapped-below x 0
+    ap (λ (n : ℕ). registerBytes (x % 256 + x / 4294967296 % 16777216 * 256 + n * 4294967296)) e ∙ swapped-registers x 0
 
-top : (a m n u : ℕ) → a < 256 → m < 16777216 → n < 16777216 → u < 256 → byteAt (a + m * 256 + (n + u * 16777216) * 4294967296) 7 ≡ u
-top a m n u p q r l = omega arith
+psu-byte : (a m n u : ℕ) → a < 256 → m < 16777216 → n < 16777216 → u < 256 → byteAt (a + m * 256 + (n + u * 16777216) * 4294967296) 7 ≡ u
+psu-byte a m n u p q r l = omega arith
 
-pub swapped-top : (x u : ℕ) → u < 256 → byteAt (x % 256 + x / 4294967296 % 16777216 * 256 + (x / 256 % 16777216 + u * 16777216) * 4294967296) 7 ≡ u
-swapped-top x u l = top (x % 256) (x / 4294967296 % 16777216) (x / 256 % 16777216) u (omega arith) (omega arith) (omega arith) l
+pub swapped-psu : (x u : ℕ) → u < 256 → byteAt (x % 256 + x / 4294967296 % 16777216 * 256 + (x / 256 % 16777216 + u * 16777216) * 4294967296) 7 ≡ u
+swapped-psu x u l = psu-byte (x % 256) (x / 4294967296 % 16777216) (x / 256 % 16777216) u (omega arith) (omega arith) (omega arith) l
 
-pub unswapped-below : (x u : ℕ) → registerBytes (x % 72057594037927936 + u * 72057594037927936) ≡ registerBytes x
+pub unswapped-registers : (x u : ℕ) → registerBytes (x % 72057594037927936 + u * 72057594037927936) ≡ registerBytes x
 unfolding registerBytes
-unswapped-below x u = seven-law (omega arith) (omega arith) (omega arith) (omega arith) (omega arith) (omega arith) (omega arith)
+unswapped-registers x u = register-list-equal (omega arith) (omega arith) (omega arith) (omega arith) (omega arith) (omega arith) (omega arith)
 
-pub unswapped-top : (x u : ℕ) → u < 256 → byteAt (x % 72057594037927936 + u * 72057594037927936) 7 ≡ u
-unswapped-top x u l = omega arith
+pub unswapped-psu : (x u : ℕ) → u < 256 → byteAt (x % 72057594037927936 + u * 72057594037927936) 7 ≡ u
+unswapped-psu x u l = omega arith
 
 -- return addresses: four in each word
 pub get-low-return : (x y i : ℕ) → i < 4 → quarterAt x i ≡ getD (returnQuarters x y) i 0
@@ -123,10 +123,10 @@ get-high-return x y (suc (suc (suc (suc (suc (suc (suc (suc i)))))))) g l = absu
 
 pub set-low-return : (x y i v : ℕ) → i < 4 → v < 65536 → returnQuarters (setQuarter x i v) y ≡ set (returnQuarters x y) i v
 unfolding returnQuarters
-set-low-return x y zero v l b = eight-law (omega arith) (omega arith) (omega arith) (omega arith) refl refl refl refl
-set-low-return x y (suc zero) v l b = eight-law (omega arith) (omega arith) (omega arith) (omega arith) refl refl refl refl
-set-low-return x y (suc (suc zero)) v l b = eight-law (omega arith) (omega arith) (omega arith) (omega arith) refl refl refl refl
-set-low-return x y (suc (suc (suc zero))) v l b = eight-law (omega arith) (omega arith) (omega arith) (omega arith) refl refl refl refl
+set-low-return x y zero v l b = return-list-equal (omega arith) (omega arith) (omega arith) (omega arith) refl refl refl refl
+set-low-return x y (suc zero) v l b = return-list-equal (omega arith) (omega arith) (omega arith) (omega arith) refl refl refl refl
+set-low-return x y (suc (suc zero)) v l b = return-list-equal (omega arith) (omega arith) (omega arith) (omega arith) refl refl refl refl
+set-low-return x y (suc (suc (suc zero))) v l b = return-list-equal (omega arith) (omega arith) (omega arith) (omega arith) refl refl refl refl
 set-low-return x y (suc (suc (suc (suc i)))) v l b = absurd (omega arith)
 
 pub set-high-return : (x y i v : ℕ) → 4 ≤ i → i < 8 → v < 65536 → returnQuarters x (setQuarter y (i - 4) v) ≡ set (returnQuarters x y) i v
@@ -135,57 +135,57 @@ set-high-return x y zero v g l b = absurd (omega arith)
 set-high-return x y (suc zero) v g l b = absurd (omega arith)
 set-high-return x y (suc (suc zero)) v g l b = absurd (omega arith)
 set-high-return x y (suc (suc (suc zero))) v g l b = absurd (omega arith)
-set-high-return x y (suc (suc (suc (suc zero)))) v g l b = eight-law refl refl refl refl (omega arith) (omega arith) (omega arith) (omega arith)
-set-high-return x y (suc (suc (suc (suc (suc zero))))) v g l b = eight-law refl refl refl refl (omega arith) (omega arith) (omega arith) (omega arith)
-set-high-return x y (suc (suc (suc (suc (suc (suc zero)))))) v g l b = eight-law refl refl refl refl (omega arith) (omega arith) (omega arith) (omega arith)
-set-high-return x y (suc (suc (suc (suc (suc (suc (suc zero))))))) v g l b = eight-law refl refl refl refl (omega arith) (omega arith) (omega arith) (omega arith)
+set-high-return x y (suc (suc (suc (suc zero)))) v g l b = return-list-equal refl refl refl refl (omega arith) (omega arith) (omega arith) (omega arith)
+set-high-return x y (suc (suc (suc (suc (suc zero))))) v g l b = return-list-equal refl refl refl refl (omega arith) (omega arith) (omega arith) (omega arith)
+set-high-return x y (suc (suc (suc (suc (suc (suc zero)))))) v g l b = return-list-equal refl refl refl refl (omega arith) (omega arith) (omega arith) (omega arith)
+set-high-return x y (suc (suc (suc (suc (suc (suc (suc zero))))))) v g l b = return-list-equal refl refl refl refl (omega arith) (omega arith) (omega arith) (omega arith)
 set-high-return x y (suc (suc (suc (suc (suc (suc (suc (suc i)))))))) v g l b = absurd (omega arith)
 
 -- words made of their parts
 pub register-bytes-packed : (a b c d e f g : ℕ) → a < 256 → b < 256 → c < 256 → d < 256 → e < 256 → f < 256 → g < 256 → registerBytes (a + b * 256 + c * 65536 + d * 16777216 + e * 4294967296 + f * 1099511627776 + g * 281474976710656) ≡ a ∷ b ∷ c ∷ d ∷ e ∷ f ∷ g ∷ []
 unfolding registerBytes
-register-bytes-packed a b c d e f g p q r s t u v = seven-law (omega arith) (omega arith) (omega arith) (omega arith) (omega arith) (omega arith) (omega arith)
+register-bytes-packed a b c d e f g p q r s t u v = register-list-equal (omega arith) (omega arith) (omega arith) (omega arith) (omega arith) (omega arith) (omega arith)
 
 -- a list of seven, and of eight, by its elements
-pub list-seven : (xs : List ℕ) → length xs ≡ 7 → (getD xs 0 0 ∷ getD xs 1 0 ∷ getD xs 2 0 ∷ getD xs 3 0 ∷ getD xs 4 0 ∷ getD xs 5 0 ∷ getD xs 6 0 ∷ []) ≡ xs
-list-seven ([]) p = absurd (omega arith)
-list-seven (a ∷ []) p = absurd (omega arith)
-list-seven (a ∷ b ∷ []) p = absurd (omega arith)
-list-seven (a ∷ b ∷ c ∷ []) p = absurd (omega arith)
-list-seven (a ∷ b ∷ c ∷ d ∷ []) p = absurd (omega arith)
-list-seven (a ∷ b ∷ c ∷ d ∷ e ∷ []) p = absurd (omega arith)
-list-seven (a ∷ b ∷ c ∷ d ∷ e ∷ f ∷ []) p = absurd (omega arith)
-list-seven (a ∷ b ∷ c ∷ d ∷ e ∷ f ∷ g ∷ []) p = refl
-list-seven (a ∷ b ∷ c ∷ d ∷ e ∷ f ∷ g ∷ h ∷ xs) p = absurd (omega arith)
+pub register-list-elements : (xs : List ℕ) → length xs ≡ 7 → (getD xs 0 0 ∷ getD xs 1 0 ∷ getD xs 2 0 ∷ getD xs 3 0 ∷ getD xs 4 0 ∷ getD xs 5 0 ∷ getD xs 6 0 ∷ []) ≡ xs
+register-list-elements ([]) p = absurd (omega arith)
+register-list-elements (a ∷ []) p = absurd (omega arith)
+register-list-elements (a ∷ b ∷ []) p = absurd (omega arith)
+register-list-elements (a ∷ b ∷ c ∷ []) p = absurd (omega arith)
+register-list-elements (a ∷ b ∷ c ∷ d ∷ []) p = absurd (omega arith)
+register-list-elements (a ∷ b ∷ c ∷ d ∷ e ∷ []) p = absurd (omega arith)
+register-list-elements (a ∷ b ∷ c ∷ d ∷ e ∷ f ∷ []) p = absurd (omega arith)
+register-list-elements (a ∷ b ∷ c ∷ d ∷ e ∷ f ∷ g ∷ []) p = refl
+register-list-elements (a ∷ b ∷ c ∷ d ∷ e ∷ f ∷ g ∷ h ∷ xs) p = absurd (omega arith)
 
-pub list-eight : (xs : List ℕ) → length xs ≡ 8 → (getD xs 0 0 ∷ getD xs 1 0 ∷ getD xs 2 0 ∷ getD xs 3 0 ∷ getD xs 4 0 ∷ getD xs 5 0 ∷ getD xs 6 0 ∷ getD xs 7 0 ∷ []) ≡ xs
-list-eight ([]) p = absurd (omega arith)
-list-eight (a ∷ []) p = absurd (omega arith)
-list-eight (a ∷ b ∷ []) p = absurd (omega arith)
-list-eight (a ∷ b ∷ c ∷ []) p = absurd (omega arith)
-list-eight (a ∷ b ∷ c ∷ d ∷ []) p = absurd (omega arith)
-list-eight (a ∷ b ∷ c ∷ d ∷ e ∷ []) p = absurd (omega arith)
-list-eight (a ∷ b ∷ c ∷ d ∷ e ∷ f ∷ []) p = absurd (omega arith)
-list-eight (a ∷ b ∷ c ∷ d ∷ e ∷ f ∷ g ∷ []) p = absurd (omega arith)
-list-eight (a ∷ b ∷ c ∷ d ∷ e ∷ f ∷ g ∷ h ∷ []) p = refl
-list-eight (a ∷ b ∷ c ∷ d ∷ e ∷ f ∷ g ∷ h ∷ i ∷ xs) p = absurd (omega arith)
+pub return-list-elements : (xs : List ℕ) → length xs ≡ 8 → (getD xs 0 0 ∷ getD xs 1 0 ∷ getD xs 2 0 ∷ getD xs 3 0 ∷ getD xs 4 0 ∷ getD xs 5 0 ∷ getD xs 6 0 ∷ getD xs 7 0 ∷ []) ≡ xs
+return-list-elements ([]) p = absurd (omega arith)
+return-list-elements (a ∷ []) p = absurd (omega arith)
+return-list-elements (a ∷ b ∷ []) p = absurd (omega arith)
+return-list-elements (a ∷ b ∷ c ∷ []) p = absurd (omega arith)
+return-list-elements (a ∷ b ∷ c ∷ d ∷ []) p = absurd (omega arith)
+return-list-elements (a ∷ b ∷ c ∷ d ∷ e ∷ []) p = absurd (omega arith)
+return-list-elements (a ∷ b ∷ c ∷ d ∷ e ∷ f ∷ []) p = absurd (omega arith)
+return-list-elements (a ∷ b ∷ c ∷ d ∷ e ∷ f ∷ g ∷ []) p = absurd (omega arith)
+return-list-elements (a ∷ b ∷ c ∷ d ∷ e ∷ f ∷ g ∷ h ∷ []) p = refl
+return-list-elements (a ∷ b ∷ c ∷ d ∷ e ∷ f ∷ g ∷ h ∷ i ∷ xs) p = absurd (omega arith)
 
 pub returns-packed : (x y : ℕ) {a b c d e f g h : ℕ} → quarterAt x 0 ≡ a → quarterAt x 1 ≡ b → quarterAt x 2 ≡ c → quarterAt x 3 ≡ d → quarterAt y 0 ≡ e → quarterAt y 1 ≡ f → quarterAt y 2 ≡ g → quarterAt y 3 ≡ h → returnQuarters x y ≡ (a ∷ b ∷ c ∷ d ∷ e ∷ f ∷ g ∷ h ∷ [])
 unfolding returnQuarters
-returns-packed x y p q r s t u v w = eight-law p q r s t u v w
+returns-packed x y p q r s t u v w = return-list-equal p q r s t u v w
 
 whole-cpu : (x : PackedCpu) (m : Cpu) → x .psl ≡ 0 → registerBytes (x .registers) ≡ m .registers → returnQuarters (x .low) (x .high) ≡ m .returns → withPsl (withPsu (withCounter (cpuOf x) (record { 0 = m .counter })) (m .psu)) (m .psl) ≡ m
 unfolding cpuOf withPsl withPsu withCounter inBankOrder if_then_else_
 whole-cpu x m z p q = rw (z, p, q)
 
 -- a state packed field by field, from RS 0
-pub packed : (x y z n : PackedCpu) (m : Cpu) → x .psl ≡ 0 → registerBytes (x .registers) ≡ m .registers → returnQuarters (x .low) (x .high) ≡ m .returns → cpuOf y ≡ withCounter (cpuOf x) (record { 0 = m .counter }) → cpuOf z ≡ withPsu (cpuOf y) (m .psu) → cpuOf n ≡ withPsl (cpuOf z) (m .psl) → cpuOf n ≡ m
-packed x y z n m o s t p q r =
+pub pack-law : (x y z n : PackedCpu) (m : Cpu) → x .psl ≡ 0 → registerBytes (x .registers) ≡ m .registers → returnQuarters (x .low) (x .high) ≡ m .returns → cpuOf y ≡ withCounter (cpuOf x) (record { 0 = m .counter }) → cpuOf z ≡ withPsu (cpuOf y) (m .psu) → cpuOf n ≡ withPsl (cpuOf z) (m .psl) → cpuOf n ≡ m
+pack-law x y z n m o s t p q r =
     r ∙ ap (λ (k : Cpu). withPsl k (m .psl)) (q ∙ ap (λ (k : Cpu). withPsu k (m .psu)) p) ∙ whole-cpu x m o s t
 
 -- a byte that went through a word
-pub stored-byte : {s : StepResult} {m : Cpu} {a : Address} {v : ℕ} → v % 256 ≡ v → s ≡ endedOf m 1 (Store a (v % 256)) → s ≡ endedOf m 1 (Store a v)
-stored-byte {m = m} {a = a} e h = h ∙ ap (λ (x : ℕ). endedOf m 1 (Store a x)) e
+pub stored-byte : {s : StepResult} {m : Cpu} {a : Address} {v : ℕ} → v % 256 ≡ v → s ≡ stepResult m 1 (Store a (v % 256)) → s ≡ stepResult m 1 (Store a v)
+stored-byte {m = m} {a = a} e h = h ∙ ap (λ (x : ℕ). stepResult m 1 (Store a x)) e
 
-pub put-byte-out : {s : StepResult} {m : Cpu} {v : ℕ} → v % 256 ≡ v → s ≡ endedOf m 1 (Put (v % 256)) → s ≡ endedOf m 1 (Put v)
-put-byte-out {m = m} e h = h ∙ ap (λ (x : ℕ). endedOf m 1 (Put x)) e
+pub put-byte-out : {s : StepResult} {m : Cpu} {v : ℕ} → v % 256 ≡ v → s ≡ stepResult m 1 (Put (v % 256)) → s ≡ stepResult m 1 (Put v)
+put-byte-out {m = m} e h = h ∙ ap (λ (x : ℕ). stepResult m 1 (Put x)) e

@@ -10,7 +10,7 @@ use lib.ListN.{getD, set, take, drop, length, length-take, length-drop, List·ge
 use lib.Seq.{getD-take, getD-drop, take-set-le, take-set-lt, drop-set-lt, drop-set-add, set-out, take-all}
 use Rattle.common.specs.Choice.{if_then_else_}
 use Rattle.cpu.specs.PackedCpu.{cpuOf, effectOf, stepResultOf, portsOfView}
-use Rattle.cpu.specs.Instruction.{stepOf}
+use Rattle.cpu.specs.Instruction.{instructionStep}
 use Rattle.cpu.specs.State.{withCpu, withStatus, withRead, withWritten}
 use Rattle.cpu.specs.Machine.{machineOf, portsOf, withEffect, afterStep, machineStep}
 use Rattle.cpu.specs.Partition.{BoundsHold, boundsOf, machineByBounds, portViewOf, PartitionAfter, partitionAfter, applyEffectOf}
@@ -41,13 +41,13 @@ bounds-inside b n p =
     let d2 = p .input-end in
     let d3 = p .output-end in
     let d4 = p .input-start in
-    let d5 = p .wide in
+    let d5 = p .input-size in
     record { window-end = omega arith; input-end = omega arith; output-end = omega arith; input-start = omega arith; output-start = omega arith }
 
 -- a part that is cut at the end of the bytes
-cut : (n m : ℕ) (l : List ℕ) → m ≡ min n (length l) → (t : Bool) → ltb n (length l) ≡ t → take m l ≡ take n l
-cut n m l e true h = let g : n < length l = ltb-true _ _ h in let d : m ≡ n = omega arith in rw d
-cut n m l e false h = let g : length l ≤ n = ltb-false _ _ h in let d : length l ≤ m = omega arith in take-all m l d ∙ sym (take-all n l g)
+take-cut : (n m : ℕ) (l : List ℕ) → m ≡ min n (length l) → (t : Bool) → ltb n (length l) ≡ t → take m l ≡ take n l
+take-cut n m l e true h = let g : n < length l = ltb-true _ _ h in let d : m ≡ n = omega arith in rw d
+take-cut n m l e false h = let g : length l ≤ n = ltb-false _ _ h in let d : length l ≤ m = omega arith in take-all m l d ∙ sym (take-all n l g)
 
 cut-length : (n m : ℕ) (l : List ℕ) → length (take n (drop m l)) ≡ min n (length l - m)
 cut-length n m l = length-take n (drop m l) ∙ ap (λ (k : ℕ). min n k) (length-drop m l)
@@ -127,9 +127,9 @@ apply-put given b c s k l v p h m e =
     let five = take-set-lt (b .end - b .«output_start») (drop (b .«output_start») l) (k .written) (v % 256) q in
     rw (e, h, one, two, three, four, five)
 
-room : (b : Bounds) (k : Positions) (l : List ℕ) → BoundsHold b (length l) → leb (length (take (b .end - b .«output_start») (drop (b .«output_start») l))) (k .written) ≡ false → (t : Bool) → ltb (b .«output_start» + k .written) (b .«output_end») ≡ t → ltb (b .«output_start» + k .written) (b .«output_end») ≡ true
-room b k l p f true h = h
-room b k l p f false h =
+output-has-room : (b : Bounds) (k : Positions) (l : List ℕ) → BoundsHold b (length l) → leb (length (take (b .end - b .«output_start») (drop (b .«output_start») l))) (k .written) ≡ false → (t : Bool) → ltb (b .«output_start» + k .written) (b .«output_end») ≡ t → ltb (b .«output_start» + k .written) (b .«output_end») ≡ true
+output-has-room b k l p f true h = h
+output-has-room b k l p f false h =
     let i : b .«output_end» ≤ b .«output_start» + k .written = ltb-false _ _ h in
     let g : leb (b .«output_end») (b .«output_start» + k .written) ≡ true = le-leb _ _ i in
     let x : true ≡ false = sym g ∙ full-law b k l p false h ∙ f in
@@ -141,7 +141,7 @@ unfolding applyEffectOf withEffect machineByBounds
 apply-law Nothing given b c s k l p g m e = rw (e)
 apply-law (Store a v) given b c s k l p g m e = apply-store given b c s k l a v p _ refl m e
 apply-law Take given b c s k l p g m e = apply-take given b c s k l g m e
-apply-law (Put v) given b c s k l p g m e = apply-put given b c s k l v p (room b k l p g _ refl) m e
+apply-law (Put v) given b c s k l p g m e = apply-put given b c s k l v p (output-has-room b k l p g _ refl) m e
 
 -- the positions stay in range
 abbrev PositionsFit : PartitionAfter → Type 0
@@ -157,7 +157,7 @@ unfolding applyEffectOf if_then_else_
 fit-put v b k l n p r w true h =
     let g : b .«output_start» + k .written < b .«output_end» = ltb-true _ _ h in
     let f : b .«output_end» ≡ min (b .end) n = p .output-end in
-    let o : b .end < b .«output_start» + 65536 = p .long in
+    let o : b .end < b .«output_start» + 65536 = p .output-size in
     rw (h) (r, omega arith)
 fit-put v b k l n p r w false h = rw (h) (r, w)
 
@@ -221,7 +221,7 @@ packed-after-step : (given : State) (b : Bounds) (c : Cpu) (s : ℕ) (k : Positi
 unfolding machineByBounds stepResultOf
 packed-after-step given b c s k l w = refl
 
-step-by-bounds : (given : State) (b : Bounds) (c : Cpu) (s : ℕ) (k : Positions) (l : List ℕ) → stepOf c (take (b .«input_start») l) (portsOf (machineByBounds given b c s k l)) ≡ stepOf (machineByBounds given b c s k l .state .cpu) (machineByBounds given b c s k l .window) (portsOf (machineByBounds given b c s k l))
+step-by-bounds : (given : State) (b : Bounds) (c : Cpu) (s : ℕ) (k : Positions) (l : List ℕ) → instructionStep c (take (b .«input_start») l) (portsOf (machineByBounds given b c s k l)) ≡ instructionStep (machineByBounds given b c s k l .state .cpu) (machineByBounds given b c s k l .window) (portsOf (machineByBounds given b c s k l))
 unfolding machineByBounds
 step-by-bounds given b c s k l = refl
 
@@ -233,13 +233,13 @@ pub status-at : (given : State) (b : Bounds) (c : Cpu) (s : ℕ) (k : Positions)
 unfolding machineByBounds
 status-at given b c s k l = refl
 
-pub iteration-steps : (given : State) (b : Bounds) (m : PackedCpu) (s : ℕ) (k : Positions) (l : List ℕ) → BoundsHold b (length l) → s ≡ 1 → (w : PackedStep) → stepResultOf w ≡ stepOf (cpuOf m) (take (b .«window_end») l) (portsOfView (portViewOf b k) (take (b .«input_end») l)) → (n : Positions) (v : List ℕ) → partitionAfter n v ≡ applyEffectOf (w .effect) b k l → machineByBounds given b (cpuOf (w .cpu)) (w .status) n v ≡ machineStep (machineByBounds given b (cpuOf m) s k l)
+pub iteration-steps : (given : State) (b : Bounds) (m : PackedCpu) (s : ℕ) (k : Positions) (l : List ℕ) → BoundsHold b (length l) → s ≡ 1 → (w : PackedStep) → stepResultOf w ≡ instructionStep (cpuOf m) (take (b .«window_end») l) (portsOfView (portViewOf b k) (take (b .«input_end») l)) → (n : Positions) (v : List ℕ) → partitionAfter n v ≡ applyEffectOf (w .effect) b k l → machineByBounds given b (cpuOf (w .cpu)) (w .status) n v ≡ machineStep (machineByBounds given b (cpuOf m) s k l)
 iteration-steps given b m s k l q e w g n v h =
-    let window : take (b .«window_end») l ≡ take (b .«input_start») l = cut (b .«input_start») (b .«window_end») l (q .window-end) _ refl in
-    let d : stepResultOf w ≡ stepOf (cpuOf m) (take (b .«input_start») l) (portsOf (machineByBounds given b (cpuOf m) s k l)) =
+    let window : take (b .«window_end») l ≡ take (b .«input_start») l = take-cut (b .«input_start») (b .«window_end») l (q .window-end) _ refl in
+    let d : stepResultOf w ≡ instructionStep (cpuOf m) (take (b .«input_start») l) (portsOf (machineByBounds given b (cpuOf m) s k l)) =
     g
-    ∙ ap (λ (x : List ℕ). stepOf (cpuOf m) x (portsOfView (portViewOf b k) (take (b .«input_end») l))) window
-    ∙ ap (λ (x : Ports). stepOf (cpuOf m) (take (b .«input_start») l) x) (ports-law given b (cpuOf m) s k l q) in
+    ∙ ap (λ (x : List ℕ). instructionStep (cpuOf m) x (portsOfView (portViewOf b k) (take (b .«input_end») l))) window
+    ∙ ap (λ (x : Ports). instructionStep (cpuOf m) (take (b .«input_start») l) x) (ports-law given b (cpuOf m) s k l q) in
     let ports = portsOf (machineByBounds given b (cpuOf m) s k l) in
     let allowed : EffectAllowed ports (stepResultOf w .effect) = subst (λ (t : StepResult). EffectAllowed ports (t .effect)) (sym d) (ending-allowed (step-ends (cpuOf m) (take (b .«input_start») l) ports)) in
     apply-law (w .effect) given b (cpuOf (w .cpu)) (w .status) k l q (allowed-at given b (cpuOf m) (cpuOf (w .cpu)) s (w .status) k l w allowed) (partitionAfter n v) h

@@ -6,8 +6,8 @@ use Prim.Native.Nat.{ℕ, _+_, _/_, _%_}
 use lib.Dec.{eqb}
 use Rattle.cpu.specs.Address.{addWrapping, fetchOf, ifFetched, ifLocated, addressOf, resolveOf, relativeOf}
 use Rattle.common.specs.Choice.{if_then_else_}
-use Rattle.cpu.specs.Result.{StepResult, goingOf, stoppedOf, addressAfter, advancedOf}
-use Rattle.cpu.specs.Cpu.{fieldCC, withoutII, pslOf, psuOf, registerOf, withRegister, withCounter, withPsu, calledOf, returnedOf}
+use Rattle.cpu.specs.Result.{StepResult, runningOf, stoppedOf, addressAfter, advancedOf}
+use Rattle.cpu.specs.Cpu.{fieldCC, withoutII, pslOf, psuOf, registerOf, withRegister, withCounter, withPsu, callOf, returnFromCallOf}
 use Rattle.common.specs.declared.places.Address.{Address}
 use Rattle.cpu.specs.declared.branch.Target.{Target}
 use Rattle.cpu.specs.declared.branch.Target.the-variants.{To, NoTarget}
@@ -32,6 +32,7 @@ registerCountedOf Bst cpu r = cpu
 registerCountedOf Bsf cpu r = cpu
 registerCountedOf Bsn cpu r = cpu
 
+-- register r is not zero
 abbrev pub registerNotZero : Cpu → ℕ → Bool
 registerNotZero cpu r = not (eqb (registerOf cpu r) 0)
 
@@ -59,14 +60,14 @@ isCallOf Bsn = true
 
 -- to an address; a call stores the address of the next instruction
 unfoldable pub jumpOf : Bool → Cpu → Address → Address → StepResult
-jumpOf calls cpu a next = if calls then goingOf (withCounter (calledOf cpu next) a) else goingOf (withCounter cpu a)
+jumpOf calls cpu a next = if calls then runningOf (withCounter (callOf cpu next) a) else runningOf (withCounter cpu a)
 
 -- the target's pointer is read only if the branch is taken. A pointer outside undoes the step of the register too
 unfoldable pub branchIfTakenOf : BranchKind → Cpu → Cpu → List ℕ → ℕ → ℕ → Address → Address → StepResult
 branchIfTakenOf kind cpu counted window r indirect a next =
     if isTakenOf kind counted r
     then ifLocated (resolveOf window indirect a) (stoppedOf cpu 6) (λ t. jumpOf (isCallOf kind) counted t next)
-    else goingOf (withCounter counted next)
+    else runningOf (withCounter counted next)
 
 -- what the own bytes of a branch of k bytes say: the indirect bit, the address, and the address of the next instruction.
 -- The second byte has a displacement, or begins fifteen bits of address
@@ -75,9 +76,11 @@ targetBy Relative cpu k window second = To (second / 128) (relativeOf (addressAf
 targetBy Absolute cpu k window second =
     ifFetched (fetchOf window (addressAfter cpu 2)) NoTarget (λ third. To (second / 128) (addressOf second third) (addressAfter cpu k))
 
+-- the target by the second byte; outside there is none
 unfoldable pub targetOf : BranchMode → Cpu → ℕ → List ℕ → Target
 targetOf mode cpu k window = ifFetched (fetchOf window (addressAfter cpu 1)) NoTarget (λ second. targetBy mode cpu k window second)
 
+-- what follows if there is a target, and what if there is none
 abbrev pub ifTarget : {A : Type 0} → Target → A → (ℕ → Address → Address → A) → A
 ifTarget (To indirect a next) stop go = go indirect a next
 ifTarget NoTarget stop go = stop
@@ -105,10 +108,10 @@ indexedBranchOf calls cpu k window =
 
 -- RETC, and RETE, which clears II if it is taken
 unfoldable pub returnIfOf : Cpu → ℕ → ℕ → StepResult
-returnIfOf cpu k v = if conditionMetOf (pslOf cpu) v then goingOf (returnedOf cpu) else goingOf (advancedOf cpu k)
+returnIfOf cpu k v = if conditionMetOf (pslOf cpu) v then runningOf (returnFromCallOf cpu) else runningOf (advancedOf cpu k)
 
 unfoldable pub clearIIOf : Cpu → Cpu
 clearIIOf cpu = withPsu cpu (withoutII (psuOf cpu))
 
 unfoldable pub returnEnableOf : Cpu → ℕ → ℕ → StepResult
-returnEnableOf cpu k v = if conditionMetOf (pslOf cpu) v then goingOf (clearIIOf (returnedOf cpu)) else goingOf (advancedOf cpu k)
+returnEnableOf cpu k v = if conditionMetOf (pslOf cpu) v then runningOf (clearIIOf (returnFromCallOf cpu)) else runningOf (advancedOf cpu k)

@@ -89,11 +89,11 @@ unfoldable pub withReturn : Cpu → ℕ → Address → Cpu
 withReturn cpu sp a = record { counter = cpu .counter; registers = cpu .registers; psu = cpu .psu; psl = cpu .psl; returns = set (cpu .returns) sp (a .0) }
 
 -- a call adds one to SP, modulo 8, and stores the return address there
-unfoldable pub calledOf : Cpu → Address → Cpu
-calledOf cpu back =
+unfoldable pub callOf : Cpu → Address → Cpu
+callOf cpu back =
     withPsu (withReturn cpu ((fieldSP (psuOf cpu) + 1) % 8) back) (withSP (psuOf cpu) ((fieldSP (psuOf cpu) + 1) % 8))
 
 -- a return takes the counter from SP, and subtracts one from it, modulo 8
-unfoldable pub returnedOf : Cpu → Cpu
-returnedOf cpu =
+unfoldable pub returnFromCallOf : Cpu → Cpu
+returnFromCallOf cpu =
     withPsu (withCounter cpu (returnOf cpu (fieldSP (psuOf cpu)))) (withSP (psuOf cpu) ((fieldSP (psuOf cpu) + 7) % 8))

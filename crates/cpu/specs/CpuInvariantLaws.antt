@@ -5,10 +5,11 @@ use Prim.Native.Nat.{ℕ, zero, suc, _+_, _*_, _/_, _%_, _<_}
 use native.Mathlib.Omega.{arith}
 use lib.ListN.{getD, set, length, length-set}
 use Rattle.cpu.specs.InvariantLaws.{Invariant, KeepsInvariants}
-use Rattle.cpu.specs.Cpu.{withSP, withoutII, storedPsu, counterOf, psuOf, returnOf, withCounter, withRegister, withPsu, withPsl, withReturn}
+use Rattle.cpu.specs.Cpu.{withSP, withoutII, storedPsu}
 use Rattle.cpu.specs.declared.cpu.Cpu.{Cpu}
+use Rattle.cpu.specs.StepDefinitions.{cpu-definitions}
 
--- what a sound record asks of registers: counter and return addresses of fifteen bits, PSU of its stored bits alone
+-- what a sound table asks of registers: counter and return addresses of fifteen bits, PSU of its stored bits alone
 pub record CpuSound (cpu : Cpu) : Type 0 where
   pub counter : cpu .counter < 32768
   pub psu : storedPsu (cpu .psu) ≡ cpu .psu
@@ -35,26 +36,26 @@ set-fifteen-bits (x ∷ xs) (suc j) v h k zero = k zero
 set-fifteen-bits (x ∷ xs) (suc j) v h k (suc i) = set-fifteen-bits xs j v h (λ n. k (suc n)) i
 
 soundInvariant : Invariant
-unfolding counterOf psuOf returnOf withCounter withRegister withPsu withPsl withReturn
+unfolding cpu-definitions
 soundInvariant =
     record {
       OfCpu = CpuSound;
       OfAddress = λ a. a .0 < 32768;
       OfPsu = λ v. storedPsu v ≡ v;
       counter = λ cpu s. s .counter;
-      saved = λ cpu sp s. s .returns sp;
+      return-address = λ cpu sp s. s .returns sp;
       psu = λ cpu s. s .psu;
       in-page = λ a k h. omega arith;
-      onwards = λ a k. omega arith;
-      joined = λ high low. omega arith;
-      stored = λ v. omega arith;
-      stacked = stack-stored;
-      cleared = cleared-stored;
-      at-counter = λ cpu a h s. record { counter = h; psu = s .psu; returns = s .returns };
-      at-register = λ cpu r v s. record { counter = s .counter; psu = s .psu; returns = s .returns };
-      at-psu = λ cpu v h s. record { counter = s .counter; psu = h; returns = s .returns };
-      at-psl = λ cpu v s. record { counter = s .counter; psu = s .psu; returns = s .returns };
-      at-return = λ cpu sp a h s. record { counter = s .counter; psu = s .psu; returns = set-fifteen-bits (cpu .returns) sp (a .0) h (s .returns) };
+      wrapping = λ a k. omega arith;
+      from-bytes = λ high low. omega arith;
+      stored-psu = λ v. omega arith;
+      with-sp = stack-stored;
+      without-ii = cleared-stored;
+      with-counter = λ cpu a h s. record { counter = h; psu = s .psu; returns = s .returns };
+      with-register = λ cpu r v s. record { counter = s .counter; psu = s .psu; returns = s .returns };
+      with-psu = λ cpu v h s. record { counter = s .counter; psu = h; returns = s .returns };
+      with-psl = λ cpu v s. record { counter = s .counter; psu = s .psu; returns = s .returns };
+      with-return = λ cpu sp a h s. record { counter = s .counter; psu = s .psu; returns = set-fifteen-bits (cpu .returns) sp (a .0) h (s .returns) };
     }
 
 pub keeps-sound : {cpu next : Cpu} → KeepsInvariants cpu next → CpuSound cpu → CpuSound next
@@ -68,26 +69,26 @@ pub record CpuShaped (cpu : Cpu) : Type 0 where
 
 -- it asks nothing of an address, and nothing of PSU
 shapeInvariant : Invariant
-unfolding withCounter withRegister withPsu withPsl withReturn
+unfolding cpu-definitions
 shapeInvariant =
     record {
       OfCpu = CpuShaped;
       OfAddress = λ a. Unit {0};
       OfPsu = λ v. Unit {0};
       counter = λ cpu s. tt;
-      saved = λ cpu sp s. tt;
+      return-address = λ cpu sp s. tt;
       psu = λ cpu s. tt;
       in-page = λ a k h. tt;
-      onwards = λ a k. tt;
-      joined = λ high low. tt;
-      stored = λ v. tt;
-      stacked = λ v sp h q. tt;
-      cleared = λ v q. tt;
-      at-counter = λ cpu a h s. record { registers = s .registers; returns = s .returns };
-      at-register = λ cpu r v s. record { registers = length-set (cpu .registers) _ v ∙ s .registers; returns = s .returns };
-      at-psu = λ cpu v h s. record { registers = s .registers; returns = s .returns };
-      at-psl = λ cpu v s. record { registers = s .registers; returns = s .returns };
-      at-return = λ cpu sp a h s. record { registers = s .registers; returns = length-set (cpu .returns) sp (a .0) ∙ s .returns };
+      wrapping = λ a k. tt;
+      from-bytes = λ high low. tt;
+      stored-psu = λ v. tt;
+      with-sp = λ v sp h q. tt;
+      without-ii = λ v q. tt;
+      with-counter = λ cpu a h s. record { registers = s .registers; returns = s .returns };
+      with-register = λ cpu r v s. record { registers = length-set (cpu .registers) _ v ∙ s .registers; returns = s .returns };
+      with-psu = λ cpu v h s. record { registers = s .registers; returns = s .returns };
+      with-psl = λ cpu v s. record { registers = s .registers; returns = s .returns };
+      with-return = λ cpu sp a h s. record { registers = s .registers; returns = length-set (cpu .returns) sp (a .0) ∙ s .returns };
     }
 
 pub keeps-shaped : {cpu next : Cpu} → KeepsInvariants cpu next → CpuShaped cpu → CpuShaped next

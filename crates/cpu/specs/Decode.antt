@@ -30,6 +30,7 @@ firstAndRest a others r = if eqb r 0 then a else others
 unfoldable pub restAndLast : Instruction → Instruction → ℕ → Instruction
 restAndLast others d r = if eqb r 3 then d else others
 
+-- the 64 classes, in the order of their codes: each gives the instruction by the last two bits
 abbrev pub classes : List (ℕ → Instruction)
 classes =
     firstAndRest Unknown (Operate Register (Read Lod)) ∷  -- 00 unknown, 01 LODZ
@@ -98,6 +99,7 @@ classes =
     each (Branch branch.Absolute Bdr) ∷  -- FC BDRA
     []
 
+-- the first six bits say the class
 unfoldable pub decodeOf : ℕ → Instruction
 decodeOf op = getD classes (op / 4) (each Unknown) (op % 4)
 

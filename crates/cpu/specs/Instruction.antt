@@ -9,7 +9,7 @@ use Rattle.cpu.specs.Branch.{branchOf, zeroBranchOf, indexedBranchOf, re
 use Rattle.cpu.specs.Decode.{decodeOf, instructionLength}
 use Rattle.cpu.specs.Operand.{operateOnOperandOf}
 use Rattle.cpu.specs.Port.{readDataOf, writeDataOf}
-use Rattle.cpu.specs.Result.{Ports, Nothing, StepResult, endedOf, goingOf, stoppedOf, advancedOf, registerChangedOf}
+use Rattle.cpu.specs.Result.{Ports, Nothing, StepResult, stepResult, runningOf, stoppedOf, advancedOf, registerChangedOf}
 use Rattle.cpu.specs.Cpu.{storedPsu, counterOf, pslOf, psuOf, registerOf, withPsl, withPsu}
 use Rattle.cpu.specs.Psw.{psuWithSense, maskedOf, testedOf}
 use Rattle.cpu.specs.declared.decode.Instruction.{Instruction}
@@ -23,12 +23,12 @@ executeOf UnusedPort cpu k w p r = stoppedOf cpu 7
 executeOf ExtendedPort cpu k w p r = stoppedOf cpu 7
 executeOf (Operate mode access) cpu k w p r = operateOnOperandOf mode access cpu k w r
 executeOf Strz cpu k w p r = registerChangedOf cpu k r (loadResultOf (pslOf cpu) (registerOf cpu 0))
-executeOf Nop cpu k w p r = goingOf (advancedOf cpu k)
-executeOf Halt cpu k w p r = endedOf (advancedOf cpu k) 2 Nothing
+executeOf Nop cpu k w p r = runningOf (advancedOf cpu k)
+executeOf Halt cpu k w p r = stepResult (advancedOf cpu k) 2 Nothing
 executeOf Spsu cpu k w p r = registerChangedOf cpu k 0 (loadResultOf (pslOf cpu) (psuWithSense cpu (p .unread)))
 executeOf Spsl cpu k w p r = registerChangedOf cpu k 0 (loadResultOf (pslOf cpu) (pslOf cpu))
-executeOf Lpsu cpu k w p r = goingOf (advancedOf (withPsu cpu (storedPsu (registerOf cpu 0))) k)
-executeOf Lpsl cpu k w p r = goingOf (advancedOf (withPsl cpu (registerOf cpu 0)) k)
+executeOf Lpsu cpu k w p r = runningOf (advancedOf (withPsu cpu (storedPsu (registerOf cpu 0))) k)
+executeOf Lpsl cpu k w p r = runningOf (advancedOf (withPsl cpu (registerOf cpu 0)) k)
 executeOf Cpsu cpu k w p r = maskedOf cpu k w (λ mask. withPsu cpu (storedPsu (bitAnd (psuOf cpu) (255 - mask))))
 executeOf Cpsl cpu k w p r = maskedOf cpu k w (λ mask. withPsl cpu (bitAnd (pslOf cpu) (255 - mask)))
 executeOf Ppsu cpu k w p r = maskedOf cpu k w (λ mask. withPsu cpu (storedPsu (bitOr (psuOf cpu) mask)))
@@ -50,7 +50,7 @@ executeOf Bxa cpu k w p r = indexedBranchOf false cpu k w
 executeOf Bsxa cpu k w p r = indexedBranchOf true cpu k w
 
 -- the first byte outside gives 6; its code says the instruction, with its length, and its last two bits the register or the condition
-unfoldable pub stepOf : Cpu → List ℕ → Ports → StepResult
-stepOf cpu w p =
+unfoldable pub instructionStep : Cpu → List ℕ → Ports → StepResult
+instructionStep cpu w p =
     ifFetched (fetchOf w (counterOf cpu)) (stoppedOf cpu 6) (λ op.
     executeOf (decodeOf op) cpu (instructionLength (decodeOf op)) w p (op % 4))

@@ -7,7 +7,7 @@ use Rattle.cpu.specs.Address.{addInPage, addWrapping, addressOf, displac
 use Rattle.cpu.specs.Branch.{registerCountedOf, clearIIOf}
 use Rattle.cpu.specs.Operand.{steppedIndexOf}
 use Rattle.cpu.specs.Result.{addressAfter, advancedOf, withAluResult}
-use Rattle.cpu.specs.Cpu.{withSP, withoutII, storedPsu, counterOf, psuOf, returnOf, withCounter, withRegister, withPsu, withPsl, withReturn, calledOf, returnedOf}
+use Rattle.cpu.specs.Cpu.{withSP, withoutII, storedPsu, counterOf, psuOf, returnOf, withCounter, withRegister, withPsu, withPsl, withReturn, callOf, returnFromCallOf}
 use Rattle.cpu.specs.ChoiceLaws.{if-all}
 use Rattle.common.specs.declared.places.Address.{Address}
 use Rattle.cpu.specs.declared.alu.AluResult.{AluResult}
@@ -23,22 +23,22 @@ pub record Invariant : Type 1 where
   pub OfPsu : ℕ → Type 0
   -- the parts of a state
   pub counter : (cpu : Cpu) → OfCpu cpu → OfAddress (counterOf cpu)
-  pub saved : (cpu : Cpu) (sp : ℕ) → OfCpu cpu → OfAddress (returnOf cpu sp)
+  pub return-address : (cpu : Cpu) (sp : ℕ) → OfCpu cpu → OfAddress (returnOf cpu sp)
   pub psu : (cpu : Cpu) → OfCpu cpu → OfPsu (psuOf cpu)
   -- the addresses that are made of others, and of bytes
   pub in-page : (a : Address) (k : ℕ) → OfAddress a → OfAddress (addInPage a k)
-  pub onwards : (a : Address) (k : ℕ) → OfAddress (addWrapping a k)
-  pub joined : (high low : ℕ) → OfAddress (addressOf high low)
+  pub wrapping : (a : Address) (k : ℕ) → OfAddress (addWrapping a k)
+  pub from-bytes : (high low : ℕ) → OfAddress (addressOf high low)
   -- the values that PSU gets
-  pub stored : (v : ℕ) → OfPsu (storedPsu v)
-  pub stacked : (v sp : ℕ) → sp < 8 → OfPsu v → OfPsu (withSP v sp)
-  pub cleared : (v : ℕ) → OfPsu v → OfPsu (withoutII v)
+  pub stored-psu : (v : ℕ) → OfPsu (storedPsu v)
+  pub with-sp : (v sp : ℕ) → sp < 8 → OfPsu v → OfPsu (withSP v sp)
+  pub without-ii : (v : ℕ) → OfPsu v → OfPsu (withoutII v)
   -- the changes
-  pub at-counter : (cpu : Cpu) (a : Address) → OfAddress a → OfCpu cpu → OfCpu (withCounter cpu a)
-  pub at-register : (cpu : Cpu) (r v : ℕ) → OfCpu cpu → OfCpu (withRegister cpu r v)
-  pub at-psu : (cpu : Cpu) (v : ℕ) → OfPsu v → OfCpu cpu → OfCpu (withPsu cpu v)
-  pub at-psl : (cpu : Cpu) (v : ℕ) → OfCpu cpu → OfCpu (withPsl cpu v)
-  pub at-return : (cpu : Cpu) (sp : ℕ) (a : Address) → OfAddress a → OfCpu cpu → OfCpu (withReturn cpu sp a)
+  pub with-counter : (cpu : Cpu) (a : Address) → OfAddress a → OfCpu cpu → OfCpu (withCounter cpu a)
+  pub with-register : (cpu : Cpu) (r v : ℕ) → OfCpu cpu → OfCpu (withRegister cpu r v)
+  pub with-psu : (cpu : Cpu) (v : ℕ) → OfPsu v → OfCpu cpu → OfCpu (withPsu cpu v)
+  pub with-psl : (cpu : Cpu) (v : ℕ) → OfCpu cpu → OfCpu (withPsl cpu v)
+  pub with-return : (cpu : Cpu) (sp : ℕ) (a : Address) → OfAddress a → OfCpu cpu → OfCpu (withReturn cpu sp a)
 
 -- a state is changed into one of which every invariant holds that held of it
 abbrev pub KeepsInvariants : Cpu → Cpu → Type 1
@@ -53,10 +53,10 @@ pub lead-after : (cpu : Cpu) (k : ℕ) → LeadsTo cpu (addressAfter cpu k)
 lead-after cpu k i s = i .in-page _ k (i .counter cpu s)
 
 pub lead-bytes : (cpu : Cpu) (high low : ℕ) → LeadsTo cpu (addressOf high low)
-lead-bytes cpu high low i s = i .joined high low
+lead-bytes cpu high low i s = i .from-bytes high low
 
 pub lead-wrapping : (cpu : Cpu) (a : Address) (k : ℕ) → LeadsTo cpu (addWrapping a k)
-lead-wrapping cpu a k i s = i .onwards a k
+lead-wrapping cpu a k i s = i .wrapping a k
 
 lead-displaced : (cpu : Cpu) (a : Address) (d : ℤ) → LeadsTo cpu a → LeadsTo cpu (displacedOf a d)
 unfolding displacedOf
@@ -70,35 +70,35 @@ lead-relative cpu a b h = lead-displaced cpu a (displacementOf b) h
 -- the changes that instructions are made of
 pub keep-advanced : (cpu : Cpu) (k : ℕ) → KeepsInvariants cpu (advancedOf cpu k)
 unfolding advancedOf
-keep-advanced cpu k i s = i .at-counter cpu _ (lead-after cpu k i s) s
+keep-advanced cpu k i s = i .with-counter cpu _ (lead-after cpu k i s) s
 
 pub keep-alu-result : (cpu : Cpu) (r : ℕ) (o : AluResult) → KeepsInvariants cpu (withAluResult cpu r o)
 unfolding withAluResult
-keep-alu-result cpu r o i s = i .at-psl _ _ (i .at-register cpu r _ s)
+keep-alu-result cpu r o i s = i .with-psl _ _ (i .with-register cpu r _ s)
 
-pub keep-called : (cpu : Cpu) (back : Address) (i : Invariant) → i .OfAddress back → i .OfCpu cpu → i .OfCpu (calledOf cpu back)
-unfolding calledOf
-keep-called cpu back i h s = i .at-psu _ _ (i .stacked _ _ (omega arith) (i .psu cpu s)) (i .at-return cpu _ back h s)
+pub keep-call : (cpu : Cpu) (back : Address) (i : Invariant) → i .OfAddress back → i .OfCpu cpu → i .OfCpu (callOf cpu back)
+unfolding callOf
+keep-call cpu back i h s = i .with-psu _ _ (i .with-sp _ _ (omega arith) (i .psu cpu s)) (i .with-return cpu _ back h s)
 
-pub keep-returned : (cpu : Cpu) → KeepsInvariants cpu (returnedOf cpu)
-unfolding returnedOf
-keep-returned cpu i s = i .at-psu _ _ (i .stacked _ _ (omega arith) (i .psu cpu s)) (i .at-counter cpu _ (i .saved cpu _ s) s)
+pub keep-return-from-call : (cpu : Cpu) → KeepsInvariants cpu (returnFromCallOf cpu)
+unfolding returnFromCallOf
+keep-return-from-call cpu i s = i .with-psu _ _ (i .with-sp _ _ (omega arith) (i .psu cpu s)) (i .with-counter cpu _ (i .return-address cpu _ s) s)
 
 pub keep-clear-ii : (cpu : Cpu) → KeepsInvariants cpu (clearIIOf cpu)
 unfolding clearIIOf
-keep-clear-ii cpu i s = i .at-psu cpu _ (i .cleared _ (i .psu cpu s)) s
+keep-clear-ii cpu i s = i .with-psu cpu _ (i .without-ii _ (i .psu cpu s)) s
 
 pub keep-index : (cpu : Cpu) (r control v : ℕ) → KeepsInvariants cpu (steppedIndexOf cpu r control v)
 unfolding steppedIndexOf
-keep-index cpu r control v i s = if-all (i .OfCpu) (λ e. s) (λ e. i .at-register cpu r v s)
+keep-index cpu r control v i s = if-all (i .OfCpu) (λ e. s) (λ e. i .with-register cpu r v s)
 
 pub keep-counted : (kind : BranchKind) (cpu : Cpu) (r : ℕ) → KeepsInvariants cpu (registerCountedOf kind cpu r)
 unfolding registerCountedOf
 keep-counted Bct cpu r i s = s
 keep-counted Bcf cpu r i s = s
 keep-counted Brn cpu r i s = s
-keep-counted Bir cpu r i s = i .at-register cpu r _ s
-keep-counted Bdr cpu r i s = i .at-register cpu r _ s
+keep-counted Bir cpu r i s = i .with-register cpu r _ s
+keep-counted Bdr cpu r i s = i .with-register cpu r _ s
 keep-counted Bst cpu r i s = s
 keep-counted Bsf cpu r i s = s
 keep-counted Bsn cpu r i s = s

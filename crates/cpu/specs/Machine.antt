@@ -5,7 +5,7 @@ use lib.ListN.{drop, getD, length, set, take}
 use mathlib.Core.List.{List}
 use Rattle.common.specs.Choice.{if_then_else_}
 use Rattle.common.specs.Layout.{layoutSize}
-use Rattle.cpu.specs.Instruction.{stepOf}
+use Rattle.cpu.specs.Instruction.{instructionStep}
 use Rattle.cpu.specs.Result.{Effect, Nothing, Ports, Put, StepResult, Store, Take}
 use Rattle.cpu.specs.State.{withCpu, withRead, withStatus, withWritten}
 use Rattle.common.specs.declared.layout.Layout.{Layout}
@@ -50,6 +50,7 @@ portsOf m =
 abbrev pub withCpuAndStatus : StepResult → Machine → Machine
 withCpuAndStatus s m = withState (withStatus (s .status) (withCpu (s .cpu) (m .state))) m
 
+-- the three effects: a byte stored in the window, the input byte taken, a byte put out
 abbrev pub withByteStored : Address → ℕ → Machine → Machine
 withByteStored a v m = record { state = m .state; window = set (m .window) (a .0) v; input = m .input; output = m .output }
 
@@ -66,9 +67,10 @@ withEffect (Store a v) m = withByteStored a v m
 withEffect Take m = withInputTaken m
 withEffect (Put v) m = withOutputPut v m
 
+-- the machine after a step that came to that result
 abbrev pub afterStep : StepResult → Machine → Machine
 afterStep s m = withEffect (s .effect) (withCpuAndStatus s m)
 
 -- a step at a status other than 1 changes nothing; else it is one instruction
 unfoldable pub machineStep : Machine → Machine
-machineStep m = if eqb (m .state .status) 1 then afterStep (stepOf (m .state .cpu) (m .window) (portsOf m)) m else m
+machineStep m = if eqb (m .state .status) 1 then afterStep (instructionStep (m .state .cpu) (m .window) (portsOf m)) m else m

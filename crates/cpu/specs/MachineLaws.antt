@@ -5,14 +5,14 @@ use Prim.Native.Nat.{ℕ, zero, suc, _<_, _≤_}
 use native.Mathlib.Omega.{arith}
 use borrow.Author.Tests.{ltb-true, ltb-false, leb-true, leb-false}
 use lib.ListN.{length, length-set}
-use Rattle.cpu.specs.Instruction.{stepOf}
+use Rattle.cpu.specs.Instruction.{instructionStep}
 use Rattle.cpu.specs.Machine.{Machine, withState, portsOf, withEffect, afterStep, machineStep}
 use Rattle.cpu.specs.State.{withStatus}
 use Rattle.common.specs.Repetition.{times}
 use Rattle.cpu.specs.Result.{StepResult, lastStatus}
 use Rattle.cpu.specs.InvariantLaws.{KeepsInvariants}
 use Rattle.cpu.specs.CpuInvariantLaws.{CpuSound, keeps-sound, CpuShaped, keeps-shaped}
-use Rattle.cpu.specs.StepLaws.{Ending, goes, halts, stores, takes, puts, wants, fills, stops, step-ends}
+use Rattle.cpu.specs.StepLaws.{Ending, continues, halts, stores, takes-input, puts-output, wants-input, finds-full, stops, step-ends}
 use Rattle.cpu.specs.ChoiceLaws.{if-all}
 
 -- a machine is changed into one that has its sizes
@@ -29,7 +29,7 @@ pub record MachineSound (m : Machine) : Type 0 where
   pub written : m .state .written ≤ length (m .output)
   pub least : 1 ≤ m .state .status
   pub most : m .state .status ≤ lastStatus
-  pub wants : m .state .status ≡ 3 → m .state .read ≡ m .state .filled
+  pub wants-input : m .state .status ≡ 3 → m .state .read ≡ m .state .filled
   pub full : m .state .status ≡ 4 → m .state .written ≡ length (m .output)
 
 -- the same machine at another status
@@ -56,7 +56,7 @@ module _ (m : Machine) where
             let a = s .filled in
             let b : n .state .read ≤ m .state .filled = r (s .read) in
             let c : n .state .written ≤ length (m .output) = w (s .written) in
-            record { cpu = keeps-sound k (s .cpu); filled = omega arith; read = omega arith; written = omega arith; least = l; most = omega arith; wants = λ e. absurd (omega arith); full = λ e. absurd (omega arith) };
+            record { cpu = keeps-sound k (s .cpu); filled = omega arith; read = omega arith; written = omega arith; least = l; most = omega arith; wants-input = λ e. absurd (omega arith); full = λ e. absurd (omega arith) };
         undone = λ e. absurd (omega arith);
       }
 
@@ -76,7 +76,7 @@ module _ (m : Machine) where
               written = o;
               least = l;
               most = h;
-              wants = λ e. let x : m .state .filled ≤ m .state .read = w e in omega arith;
+              wants-input = λ e. let x : m .state .filled ≤ m .state .read = w e in omega arith;
               full = λ e. let x : length (m .output) ≤ m .state .written = f e in omega arith;
             };
         undone = λ e. refl;
@@ -84,19 +84,19 @@ module _ (m : Machine) where
 
   ending-leaves : {wrtd : Bool} {s : StepResult} → Ending (m .state .cpu) (m .window) (portsOf m) wrtd s → StepLeaves m (afterStep s m)
   unfolding withEffect
-  ending-leaves (goes next k) = carried-out _ (record { window = refl; input = refl; output = refl }) refl (omega arith) (omega arith) k (λ r. r) (λ w. w)
+  ending-leaves (continues next k) = carried-out _ (record { window = refl; input = refl; output = refl }) refl (omega arith) (omega arith) k (λ r. r) (λ w. w)
   ending-leaves (halts next k) = carried-out _ (record { window = refl; input = refl; output = refl }) refl (omega arith) (omega arith) k (λ r. r) (λ w. w)
   ending-leaves (stores next a v k h) =
       carried-out _ (record { window = length-set (m .window) (a .0) v; input = refl; output = refl }) refl (omega arith) (omega arith) k (λ r. r) (λ w. w)
-  ending-leaves (takes next k h) = carried-out _ (record { window = refl; input = refl; output = refl }) refl (omega arith) (omega arith) k (λ r. let x : m .state .read < m .state .filled = ltb-true _ _ h in omega arith) (λ w. w)
-  ending-leaves (puts next v k h) =
+  ending-leaves (takes-input next k h) = carried-out _ (record { window = refl; input = refl; output = refl }) refl (omega arith) (omega arith) k (λ r. let x : m .state .read < m .state .filled = ltb-true _ _ h in omega arith) (λ w. w)
+  ending-leaves (puts-output next v k h) =
       carried-out _ (record { window = refl; input = refl; output = length-set (m .output) (m .state .written) v }) refl (omega arith) (omega arith) k (λ r. r) (λ w.
       let x : m .state .written < length (m .output) = leb-false _ _ h in omega arith)
-  ending-leaves (wants h) = left-undone 3 (omega arith) (omega arith) (λ e. ltb-false _ _ h) (λ e. absurd (omega arith))
-  ending-leaves (fills h) = left-undone 4 (omega arith) (omega arith) (λ e. absurd (omega arith)) (λ e. leb-true _ _ h)
+  ending-leaves (wants-input h) = left-undone 3 (omega arith) (omega arith) (λ e. ltb-false _ _ h) (λ e. absurd (omega arith))
+  ending-leaves (finds-full h) = left-undone 4 (omega arith) (omega arith) (λ e. absurd (omega arith)) (λ e. leb-true _ _ h)
   ending-leaves (stops n l h) = left-undone n (omega arith) h (λ e. absurd (omega arith)) (λ e. absurd (omega arith))
 
-  step-leaves : StepLeaves m (afterStep (stepOf (m .state .cpu) (m .window) (portsOf m)) m)
+  step-leaves : StepLeaves m (afterStep (instructionStep (m .state .cpu) (m .window) (portsOf m)) m)
   step-leaves = ending-leaves (step-ends (m .state .cpu) (m .window) (portsOf m))
 
   -- a step keeps the lengths of window and buffers

@@ -4,7 +4,7 @@ use Prim.Native.Nat.{ℕ, _+_, _*_, _/_, _%_}
 use lib.Dec.{eqb}
 use Rattle.cpu.specs.Address.{addInPage, addWrapping, fetchOf, ifFetched, ifLocated, pointerOf, resolveOf, relativeOf}
 use Rattle.common.specs.Choice.{if_then_else_}
-use Rattle.cpu.specs.Result.{StepResult, Store, endedOf, stoppedOf, addressAfter, advancedOf, operatedOf}
+use Rattle.cpu.specs.Result.{StepResult, Store, stepResult, stoppedOf, addressAfter, advancedOf, operatedOf}
 use Rattle.cpu.specs.Cpu.{counterOf, registerOf, withRegister}
 use Rattle.common.specs.declared.places.Address.{Address}
 use Rattle.cpu.specs.declared.address.Located.{Located}
@@ -76,12 +76,14 @@ absoluteOperandOf cpu k window r =
     ifFetched (fetchOf window a) NoOperand (λ b.
     Found b a (dataRegisterOf (high / 32 % 4) r) (advancedOf (steppedIndexOf cpu r (high / 32 % 4) (indexOf (high / 32 % 4) (registerOf cpu r))) k)))))
 
+-- the operand by its mode
 unfoldable pub operandOf : Mode → Cpu → ℕ → List ℕ → ℕ → Operand
 operandOf Register cpu k window r = registerOperandOf cpu k r
 operandOf Immediate cpu k window r = immediateOperandOf cpu k window r
 operandOf Relative cpu k window r = relativeOperandOf cpu k window r
 operandOf Absolute cpu k window r = absoluteOperandOf cpu k window r
 
+-- what follows if there is an operand, and what if there is none
 abbrev pub ifOperand : {A : Type 0} → Operand → A → (ℕ → Address → ℕ → Cpu → A) → A
 ifOperand (Found b a d cpu) stop go = go b a d cpu
 ifOperand NoOperand stop go = stop
@@ -89,7 +91,7 @@ ifOperand NoOperand stop go = stop
 -- the operand is worked on, or the register stored over it
 abbrev pub accessOf : Access → Cpu → ℕ → ℕ → Address → StepResult
 accessOf (Read f) cpu d b a = operatedOf f cpu d b
-accessOf Write cpu d b a = endedOf cpu 1 (Store a (registerOf cpu d))
+accessOf Write cpu d b a = stepResult cpu 1 (Store a (registerOf cpu d))
 
 -- an operand that is outside the window anywhere stops the instruction with status 6
 unfoldable pub operateOnOperandOf : Mode → Access → Cpu → ℕ → List ℕ → ℕ → StepResult

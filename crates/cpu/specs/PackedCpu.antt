@@ -15,7 +15,7 @@ use Rattle.cpu.specs.declared.operand.OperandResult.the-variants.{Ready,
 use Rattle.cpu.specs.declared.result.PackedStep.{PackedStep}
 use Rattle.cpu.specs.declared.result.PortView.{PortView}
 use Rattle.cpu.specs.declared.result.PackedEffect.{PackedEffect}
-use Rattle.cpu.specs.declared.result.PackedEffect.the-variants as pending
+use Rattle.cpu.specs.declared.result.PackedEffect.the-variants as packed
 use Rattle.cpu.specs.declared.cpu.Cpu.{Cpu}
 
 -- part i of a word, in bytes and in quarters of 16 bits, and the word with another part there
@@ -55,10 +55,10 @@ cpuOf m =
 
 -- the same for what the code answers with
 abbrev pub effectOf : PackedEffect → Effect
-effectOf pending.Nothing = result.Nothing
-effectOf (pending.Store a v) = result.Store (record { 0 = a }) (v % 256)
-effectOf pending.Take = result.Take
-effectOf (pending.Put v) = result.Put (v % 256)
+effectOf packed.Nothing = result.Nothing
+effectOf (packed.Store a v) = result.Store (record { 0 = a }) (v % 256)
+effectOf packed.Take = result.Take
+effectOf (packed.Put v) = result.Put (v % 256)
 
 unfoldable pub stepResultOf : PackedStep → StepResult
 stepResultOf n = record { cpu = cpuOf (n .cpu); status = n .status; effect = effectOf (n .effect) }

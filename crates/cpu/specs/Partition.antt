@@ -36,9 +36,9 @@ pub record BoundsHold (b : Bounds) (n : ℕ) : Type 0 where
   pub output-end : b .«output_end» ≡ min (b .end) n
   pub input-start : b .«input_start» < 65536
   pub output-start : b .«input_start» ≤ b .«output_start»
-  pub wide : b .«output_start» < b .«input_start» + 65536
+  pub input-size : b .«output_start» < b .«input_start» + 65536
   pub end : b .«output_start» ≤ b .end
-  pub long : b .end < b .«output_start» + 65536
+  pub output-size : b .end < b .«output_start» + 65536
   pub filled : b .filled < 65536
 
 -- the machine in the bytes, by the bounds: what a run does not touch is as in the state that it was given

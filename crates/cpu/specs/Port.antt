@@ -2,15 +2,15 @@
 use Prim.Native.Nat.{ℕ}
 use Rattle.cpu.specs.Alu.{loadResultOf}
 use Rattle.common.specs.Choice.{if_then_else_}
-use Rattle.cpu.specs.Result.{Ports, Take, Put, StepResult, endedOf, stoppedOf, advancedOf, withAluResult}
+use Rattle.cpu.specs.Result.{Ports, Take, Put, StepResult, stepResult, stoppedOf, advancedOf, withAluResult}
 use Rattle.cpu.specs.Cpu.{pslOf, registerOf}
 use Rattle.cpu.specs.declared.cpu.Cpu.{Cpu}
 
 -- REDD: with nothing unread, status 3
 unfoldable pub readDataOf : Cpu → ℕ → Ports → ℕ → StepResult
 readDataOf cpu k p r =
-    if p .unread then endedOf (advancedOf (withAluResult cpu r (loadResultOf (pslOf cpu) (p .byte))) k) 1 Take else stoppedOf cpu 3
+    if p .unread then stepResult (advancedOf (withAluResult cpu r (loadResultOf (pslOf cpu) (p .byte))) k) 1 Take else stoppedOf cpu 3
 
 -- WRTD: with the output full, status 4
 unfoldable pub writeDataOf : Cpu → ℕ → Ports → ℕ → StepResult
-writeDataOf cpu k p r = if p .full then stoppedOf cpu 4 else endedOf (advancedOf cpu k) 1 (Put (registerOf cpu r))
+writeDataOf cpu k p r = if p .full then stoppedOf cpu 4 else stepResult (advancedOf cpu k) 1 (Put (registerOf cpu r))

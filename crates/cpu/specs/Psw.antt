@@ -5,7 +5,7 @@ use Prim.Native.Nat.{ℕ, _+_, _%_}
 use Rattle.cpu.specs.Address.{fetchOf, ifFetched}
 use Rattle.cpu.specs.Alu.{withCC, testCCOf}
 use Rattle.common.specs.Choice.{if_then_else_}
-use Rattle.cpu.specs.Result.{StepResult, goingOf, stoppedOf, addressAfter, advancedOf}
+use Rattle.cpu.specs.Result.{StepResult, runningOf, stoppedOf, addressAfter, advancedOf}
 use Rattle.cpu.specs.Cpu.{pslOf, psuOf, withPsl}
 use Rattle.cpu.specs.declared.cpu.Cpu.{Cpu}
 
@@ -15,7 +15,7 @@ psuWithSense cpu unread = if unread then psuOf cpu % 128 + 128 else psuOf cpu % 
 
 -- an instruction of k bytes: the state by the mask in the second
 unfoldable pub maskedOf : Cpu → ℕ → List ℕ → (ℕ → Cpu) → StepResult
-maskedOf cpu k window f = ifFetched (fetchOf window (addressAfter cpu 1)) (stoppedOf cpu 6) (λ mask. goingOf (advancedOf (f mask) k))
+maskedOf cpu k window f = ifFetched (fetchOf window (addressAfter cpu 1)) (stoppedOf cpu 6) (λ mask. runningOf (advancedOf (f mask) k))
 
 -- CC by a test of v under the mask
 unfoldable pub testedOf : Cpu → ℕ → List ℕ → ℕ → StepResult

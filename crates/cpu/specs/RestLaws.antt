@@ -3,11 +3,11 @@ use mathlib.Core.Path.{_≡_, refl}
 use Prim.Native.Nat.{ℕ, zero, suc}
 use borrow.Author.Tests.{eq-eqb, ne-eqb}
 use Rattle.common.specs.Choice.{if_then_else_}
-use Rattle.cpu.specs.Instruction.{stepOf}
+use Rattle.cpu.specs.Instruction.{instructionStep}
 use Rattle.cpu.specs.Machine.{Machine, portsOf, afterStep, machineStep}
 use Rattle.common.specs.Repetition.{times}
 
-pub step-runs : (m : Machine) → m .state .status ≡ 1 → machineStep m ≡ afterStep (stepOf (m .state .cpu) (m .window) (portsOf m)) m
+pub step-runs : (m : Machine) → m .state .status ≡ 1 → machineStep m ≡ afterStep (instructionStep (m .state .cpu) (m .window) (portsOf m)) m
 unfolding machineStep if_then_else_
 step-runs m e = rw (eq-eqb _ _ e)
 

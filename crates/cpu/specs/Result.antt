@@ -22,17 +22,19 @@ pub data Effect : Type 0 where
   Take : Effect
   Put : ℕ → Effect
 
+-- what a step comes to: the state, document 01's status, and the effect
 pub record StepResult : Type 0 where
   pub cpu : Cpu
   pub status : ℕ
   pub effect : Effect
 
-abbrev pub endedOf : Cpu → ℕ → Effect → StepResult
-endedOf cpu n x = record { cpu = cpu; status = n; effect = x }
+-- a result of its parts
+abbrev pub stepResult : Cpu → ℕ → Effect → StepResult
+stepResult cpu n x = record { cpu = cpu; status = n; effect = x }
 
 -- status 1, and no effect but on the state
-abbrev pub goingOf : Cpu → StepResult
-goingOf cpu = endedOf cpu 1 Nothing
+abbrev pub runningOf : Cpu → StepResult
+runningOf cpu = stepResult cpu 1 Nothing
 
 -- the last of the statuses
 abbrev pub lastStatus : ℕ
@@ -40,7 +42,7 @@ lastStatus = 7
 
 -- statuses from 3 on: nothing of the instruction takes effect, and the counter remains at its first byte
 abbrev pub stoppedOf : Cpu → ℕ → StepResult
-stoppedOf cpu n = endedOf cpu n Nothing
+stoppedOf cpu n = stepResult cpu n Nothing
 
 -- the address k after the instruction's first byte
 abbrev pub addressAfter : Cpu → ℕ → Address
@@ -56,8 +58,8 @@ withAluResult cpu r o = withPsl (withRegister cpu r (o .value)) (o .psl)
 
 -- an instruction of k bytes that changes register r alone
 unfoldable pub registerChangedOf : Cpu → ℕ → ℕ → AluResult → StepResult
-registerChangedOf cpu k r o = goingOf (advancedOf (withAluResult cpu r o) k)
+registerChangedOf cpu k r o = runningOf (advancedOf (withAluResult cpu r o) k)
 
 -- an operation on register r and the operand b
 unfoldable pub operatedOf : Operation → Cpu → ℕ → ℕ → StepResult
-operatedOf f cpu r b = goingOf (withAluResult cpu r (operateOf f (pslOf cpu) (registerOf cpu r) b))
+operatedOf f cpu r b = runningOf (withAluResult cpu r (operateOf f (pslOf cpu) (registerOf cpu r) b))

@@ -4,9 +4,9 @@ use Rattle.common.specs.Choice.{if_then_else_}
 use Rattle.cpu.specs.Address.{displacedOf, displacementOf, fetchOf, ifFetched, ifLocated, pointerOf, relativeOf, resolveOf}
 use Rattle.cpu.specs.Alu.{adjustDigitOf, carryInOf, compareCCOf, compareResultOf, conditionCodeOf, decimalAdjustOf, loadResultOf, operateOf, overflowOf, rotateLeftOf, rotateResultOf, rotateRightOf, signedOf, sumResultOf, testCCOf}
 use Rattle.cpu.specs.Branch.{branchIfTakenOf, branchOf, clearIIOf, conditionMetOf, indexedBranchOf, isCallOf, isTakenOf, jumpOf, registerCountedOf, returnEnableOf, returnIfOf, targetOf, zeroBranchOf}
-use Rattle.cpu.specs.Cpu.{calledOf, counterOf, freshCpu, pslOf, psuOf, registerIndex, registerOf, returnOf, returnedOf, withCounter, withPsl, withPsu, withRegister, withReturn}
+use Rattle.cpu.specs.Cpu.{callOf, counterOf, freshCpu, pslOf, psuOf, registerIndex, registerOf, returnOf, returnFromCallOf, withCounter, withPsl, withPsu, withRegister, withReturn}
 use Rattle.cpu.specs.Decode.{decodeOf, eachOfFour, firstAndRest, restAndLast}
-use Rattle.cpu.specs.Instruction.{executeOf, stepOf}
+use Rattle.cpu.specs.Instruction.{executeOf, instructionStep}
 use Rattle.cpu.specs.Machine.{machineStep, withEffect}
 use Rattle.cpu.specs.Operand.{absoluteOperandOf, dataRegisterOf, immediateOperandOf, indexOf, indexedAddressOf, operandOf, operateOnOperandOf, registerOperandOf, relativeOperandOf, steppedIndexOf}
 use Rattle.cpu.specs.Port.{readDataOf, writeDataOf}
@@ -15,7 +15,7 @@ use Rattle.cpu.specs.Result.{advancedOf, operatedOf, registerChangedOf, 
 
 -- registers, status words and return addresses
 unfoldable pub cpu-definitions : Type 0
-unfolding freshCpu counterOf psuOf pslOf registerIndex registerOf returnOf withCounter withRegister withPsu withPsl withReturn calledOf returnedOf
+unfolding freshCpu counterOf psuOf pslOf registerIndex registerOf returnOf withCounter withRegister withPsu withPsl withReturn callOf returnFromCallOf
 cpu-definitions = Unit {0}
 
 -- results and the PSL that they leave
@@ -40,5 +40,5 @@ branch-definitions = Unit {0}
 
 -- all of these, and what puts them together
 unfoldable pub step-definitions : Type 0
-unfolding cpu-definitions alu-definitions address-definitions operand-definitions branch-definitions if_then_else_ eachOfFour firstAndRest restAndLast decodeOf advancedOf withAluResult registerChangedOf operatedOf psuWithSense maskedOf testedOf readDataOf writeDataOf executeOf stepOf withEffect machineStep
+unfolding cpu-definitions alu-definitions address-definitions operand-definitions branch-definitions if_then_else_ eachOfFour firstAndRest restAndLast decodeOf advancedOf withAluResult registerChangedOf operatedOf psuWithSense maskedOf testedOf readDataOf writeDataOf executeOf instructionStep withEffect machineStep
 step-definitions = Unit {0}

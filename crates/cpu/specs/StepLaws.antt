@@ -8,12 +8,12 @@ use borrow.Author.Tests.{ltb-true}
 use lib.ListN.{length}
 use Rattle.cpu.specs.Address.{fetchOf, ifFetched, pointerOf, resolveOf}
 use Rattle.cpu.specs.Branch.{registerCountedOf, isCallOf, jumpOf, branchIfTakenOf, targetBy, targetOf, ifTarget, branchOf, zeroBranchOf, indexedBranchOf, returnIfOf, returnEnableOf}
-use Rattle.cpu.specs.InvariantLaws.{KeepsInvariants, LeadsTo, lead-after, lead-bytes, lead-wrapping, lead-relative, keep-advanced, keep-alu-result, keep-called, keep-returned, keep-clear-ii, keep-index, keep-counted}
+use Rattle.cpu.specs.InvariantLaws.{KeepsInvariants, LeadsTo, lead-after, lead-bytes, lead-wrapping, lead-relative, keep-advanced, keep-alu-result, keep-call, keep-return-from-call, keep-clear-ii, keep-index, keep-counted}
 use Rattle.cpu.specs.Decode.{decodeOf, instructionLength}
-use Rattle.cpu.specs.Instruction.{executeOf, stepOf}
+use Rattle.cpu.specs.Instruction.{executeOf, instructionStep}
 use Rattle.cpu.specs.Operand.{Operand, Found, NoOperand, registerOperandOf, immediateOperandOf, relativeOperandOf, absoluteOperandOf, operandOf, ifOperand, accessOf, operateOnOperandOf}
 use Rattle.cpu.specs.Port.{readDataOf, writeDataOf}
-use Rattle.cpu.specs.Result.{Ports, Effect, Nothing, Store, Take, Put, StepResult, endedOf, goingOf, lastStatus, stoppedOf, registerChangedOf, operatedOf}
+use Rattle.cpu.specs.Result.{Ports, Effect, Nothing, Store, Take, Put, StepResult, stepResult, runningOf, lastStatus, stoppedOf, registerChangedOf, operatedOf}
 use Rattle.cpu.specs.Cpu.{counterOf}
 use Rattle.cpu.specs.Psw.{maskedOf, testedOf}
 use Rattle.cpu.specs.ChoiceLaws.{if-all, byte-all, address-all}
@@ -39,14 +39,14 @@ use Rattle.cpu.specs.declared.cpu.Cpu.{Cpu}
 
 -- the eight ways in which a step ends. Two of them are WRTD's, and they are its only ones
 pub data Ending (cpu : Cpu) (window : List ℕ) (p : Ports) : Bool → StepResult → Type 1 where
-  goes : (next : Cpu) → KeepsInvariants cpu next → Ending cpu window p false (goingOf next)
-  halts : (next : Cpu) → KeepsInvariants cpu next → Ending cpu window p false (endedOf next 2 Nothing)
-  stores : (next : Cpu) (a : Address) (v : ℕ) → KeepsInvariants cpu next → a .0 < length window → Ending cpu window p false (endedOf next 1 (Store a v))
-  takes : (next : Cpu) → KeepsInvariants cpu next → p .unread ≡ true → Ending cpu window p false (endedOf next 1 Take)
-  wants : p .unread ≡ false → Ending cpu window p false (stoppedOf cpu 3)
+  continues : (next : Cpu) → KeepsInvariants cpu next → Ending cpu window p false (runningOf next)
+  halts : (next : Cpu) → KeepsInvariants cpu next → Ending cpu window p false (stepResult next 2 Nothing)
+  stores : (next : Cpu) (a : Address) (v : ℕ) → KeepsInvariants cpu next → a .0 < length window → Ending cpu window p false (stepResult next 1 (Store a v))
+  takes-input : (next : Cpu) → KeepsInvariants cpu next → p .unread ≡ true → Ending cpu window p false (stepResult next 1 Take)
+  wants-input : p .unread ≡ false → Ending cpu window p false (stoppedOf cpu 3)
   stops : (n : ℕ) → 5 ≤ n → n ≤ lastStatus → Ending cpu window p false (stoppedOf cpu n)
-  puts : (next : Cpu) (v : ℕ) → KeepsInvariants cpu next → p .full ≡ false → Ending cpu window p true (endedOf next 1 (Put v))
-  fills : p .full ≡ true → Ending cpu window p true (stoppedOf cpu 4)
+  puts-output : (next : Cpu) (v : ℕ) → KeepsInvariants cpu next → p .full ≡ false → Ending cpu window p true (stepResult next 1 (Put v))
+  finds-full : p .full ≡ true → Ending cpu window p true (stoppedOf cpu 4)
 
 module _ (cpu : Cpu) (w : List ℕ) (p : Ports) where
   abbrev Ends : StepResult → Type 1
@@ -101,7 +101,7 @@ module _ (cpu : Cpu) (w : List ℕ) (p : Ports) where
 
       access-ends : (access : Access) (b : ℕ) (a : Address) (d : ℕ) (next : Cpu) → a .0 < length w → KeepsInvariants cpu next → Ends (accessOf access next d b a)
       unfolding operatedOf
-      access-ends (Read f) b a d next h g = goes _ (λ i s. keep-alu-result next d _ i (g i s))
+      access-ends (Read f) b a d next h g = continues _ (λ i s. keep-alu-result next d _ i (g i s))
       access-ends Write b a d next h g = stores next a _ g h
 
       if-operand-ends : (o : Operand) (access : Access) → OperandInside o → Ends (ifOperand o (stoppedOf cpu 6) (λ b a d next. accessOf access next d b a))
@@ -116,8 +116,8 @@ module _ (cpu : Cpu) (w : List ℕ) (p : Ports) where
     unfolding jumpOf
     jump-ends calls next a back g h l =
         if-all Ends {t = calls}
-        (λ e. goes _ (λ i s. i .at-counter _ a (h i s) (keep-called next back i (l i s) (g i s))))
-        (λ e. goes _ (λ i s. i .at-counter next a (h i s) (g i s)))
+        (λ e. continues _ (λ i s. i .with-counter _ a (h i s) (keep-call next back i (l i s) (g i s))))
+        (λ e. continues _ (λ i s. i .with-counter next a (h i s) (g i s)))
 
     branch-if-taken-ends : (kind : BranchKind) (r indirect : ℕ) (a back : Address) → LeadsTo cpu a → LeadsTo cpu back → Ends (branchIfTakenOf kind cpu (registerCountedOf kind cpu r) w r indirect a back)
     unfolding branchIfTakenOf
@@ -126,7 +126,7 @@ module _ (cpu : Cpu) (w : List ℕ) (p : Ports) where
         (λ e.
         address-all Ends (λ e. outside) (λ t e.
         jump-ends (isCallOf kind) _ t back (keep-counted kind cpu r) (resolve-led indirect a h .led t e) l))
-        (λ e. goes _ (λ i s. i .at-counter _ back (l i s) (keep-counted kind cpu r i s)))
+        (λ e. continues _ (λ i s. i .with-counter _ back (l i s) (keep-counted kind cpu r i s)))
 
     -- what a branch's bytes say is an address that the state leads to
     data TargetLed : Target → Type 1 where
@@ -166,31 +166,31 @@ module _ (cpu : Cpu) (w : List ℕ) (p : Ports) where
 
     return-if-ends : (v : ℕ) → Ends (returnIfOf cpu k v)
     unfolding returnIfOf
-    return-if-ends v = if-all Ends (λ e. goes _ (keep-returned cpu)) (λ e. goes _ (keep-advanced cpu k))
+    return-if-ends v = if-all Ends (λ e. continues _ (keep-return-from-call cpu)) (λ e. continues _ (keep-advanced cpu k))
 
     return-enable-ends : (v : ℕ) → Ends (returnEnableOf cpu k v)
     unfolding returnEnableOf
-    return-enable-ends v = if-all Ends (λ e. goes _ (λ i s. keep-clear-ii _ i (keep-returned cpu i s))) (λ e. goes _ (keep-advanced cpu k))
+    return-enable-ends v = if-all Ends (λ e. continues _ (λ i s. keep-clear-ii _ i (keep-return-from-call cpu i s))) (λ e. continues _ (keep-advanced cpu k))
 
     masked-ends : (f : ℕ → Cpu) → ((mask : ℕ) → KeepsInvariants cpu (f mask)) → Ends (maskedOf cpu k w f)
     unfolding maskedOf
-    masked-ends f g = byte-all Ends (λ e. outside) (λ mask e. goes _ (λ i s. keep-advanced _ k i (g mask i s)))
+    masked-ends f g = byte-all Ends (λ e. outside) (λ mask e. continues _ (λ i s. keep-advanced _ k i (g mask i s)))
 
     tested-ends : (v : ℕ) → Ends (testedOf cpu k w v)
     unfolding testedOf
-    tested-ends v = masked-ends _ (λ mask i s. i .at-psl cpu _ s)
+    tested-ends v = masked-ends _ (λ mask i s. i .with-psl cpu _ s)
 
     register-changed-ends : (r : ℕ) (o : AluResult) → Ends (registerChangedOf cpu k r o)
     unfolding registerChangedOf
-    register-changed-ends r o = goes _ (λ i s. keep-advanced _ k i (keep-alu-result cpu r o i s))
+    register-changed-ends r o = continues _ (λ i s. keep-advanced _ k i (keep-alu-result cpu r o i s))
 
     read-data-ends : (r : ℕ) → Ends (readDataOf cpu k p r)
     unfolding readDataOf
-    read-data-ends r = if-all Ends (λ e. takes _ (λ i s. keep-advanced _ k i (keep-alu-result cpu r _ i s)) e) (λ e. wants e)
+    read-data-ends r = if-all Ends (λ e. takes-input _ (λ i s. keep-advanced _ k i (keep-alu-result cpu r _ i s)) e) (λ e. wants-input e)
 
     write-data-ends : (r : ℕ) → Ending cpu w p true (writeDataOf cpu k p r)
     unfolding writeDataOf
-    write-data-ends r = if-all (Ending cpu w p true) (λ e. fills e) (λ e. puts _ _ (keep-advanced cpu k) e)
+    write-data-ends r = if-all (Ending cpu w p true) (λ e. finds-full e) (λ e. puts-output _ _ (keep-advanced cpu k) e)
 
     execute-ends : (i : Instruction) (r : ℕ) → 0 < length w → Ending cpu w p (isWrtd i) (executeOf i cpu k w p r)
     unfolding executeOf isWrtd
@@ -199,16 +199,16 @@ module _ (cpu : Cpu) (w : List ℕ) (p : Ports) where
     execute-ends ExtendedPort r h = stops 7 (omega arith) (omega arith)
     execute-ends (Operate mode access) r h = operate-ends h mode access r
     execute-ends Strz r h = register-changed-ends r _
-    execute-ends Nop r h = goes _ (keep-advanced cpu k)
+    execute-ends Nop r h = continues _ (keep-advanced cpu k)
     execute-ends Halt r h = halts _ (keep-advanced cpu k)
     execute-ends Spsu r h = register-changed-ends 0 _
     execute-ends Spsl r h = register-changed-ends 0 _
-    execute-ends Lpsu r h = goes _ (λ i s. keep-advanced _ k i (i .at-psu cpu _ (i .stored _) s))
-    execute-ends Lpsl r h = goes _ (λ i s. keep-advanced _ k i (i .at-psl cpu _ s))
-    execute-ends Cpsu r h = masked-ends _ (λ mask i s. i .at-psu cpu _ (i .stored _) s)
-    execute-ends Cpsl r h = masked-ends _ (λ mask i s. i .at-psl cpu _ s)
-    execute-ends Ppsu r h = masked-ends _ (λ mask i s. i .at-psu cpu _ (i .stored _) s)
-    execute-ends Ppsl r h = masked-ends _ (λ mask i s. i .at-psl cpu _ s)
+    execute-ends Lpsu r h = continues _ (λ i s. keep-advanced _ k i (i .with-psu cpu _ (i .stored-psu _) s))
+    execute-ends Lpsl r h = continues _ (λ i s. keep-advanced _ k i (i .with-psl cpu _ s))
+    execute-ends Cpsu r h = masked-ends _ (λ mask i s. i .with-psu cpu _ (i .stored-psu _) s)
+    execute-ends Cpsl r h = masked-ends _ (λ mask i s. i .with-psl cpu _ s)
+    execute-ends Ppsu r h = masked-ends _ (λ mask i s. i .with-psu cpu _ (i .stored-psu _) s)
+    execute-ends Ppsl r h = masked-ends _ (λ mask i s. i .with-psl cpu _ s)
     execute-ends Tpsu r h = tested-ends _
     execute-ends Tpsl r h = tested-ends _
     execute-ends Tmi r h = tested-ends _
@@ -226,8 +226,8 @@ module _ (cpu : Cpu) (w : List ℕ) (p : Ports) where
     execute-ends Bsxa r h = indexed-branch-ends true
 
   -- every step ends in one of the eight ways
-  pub step-ends : Ending cpu w p (atWrtd cpu w) (stepOf cpu w p)
-  unfolding stepOf atWrtd ifFetched
+  pub step-ends : Ending cpu w p (atWrtd cpu w) (instructionStep cpu w p)
+  unfolding instructionStep atWrtd ifFetched
   step-ends = go (fetchOf w (counterOf cpu)) refl
     where
       go : (f : Fetched) → fetchOf w (counterOf cpu) ≡ f
@@ -243,11 +243,11 @@ EffectAllowed p Take = p .unread ≡ true
 EffectAllowed p (Put v) = p .full ≡ false
 
 pub ending-allowed : {cpu : Cpu} {w : List ℕ} {p : Ports} {wrtd : Bool} {s : StepResult} → Ending cpu w p wrtd s → EffectAllowed p (s .effect)
-ending-allowed (goes next k) = tt
+ending-allowed (continues next k) = tt
 ending-allowed (halts next k) = tt
 ending-allowed (stores next a v k h) = tt
-ending-allowed (takes next k h) = h
-ending-allowed (puts next v k h) = h
-ending-allowed (wants h) = tt
-ending-allowed (fills h) = tt
+ending-allowed (takes-input next k h) = h
+ending-allowed (puts-output next v k h) = h
+ending-allowed (wants-input h) = tt
+ending-allowed (finds-full h) = tt
 ending-allowed (stops n h l) = tt

@@ -13,6 +13,7 @@ use Rattle.cpu.specs.declared.decode.Instruction.{Instruction}
 use Rattle.cpu.specs.declared.decode.Instruction.the-variants.{Unknown, UnusedPort, ExtendedPort, Operate, Strz, Nop, Halt, Spsu, Spsl, Lpsu, Lpsl, Cpsu, Cpsl, Ppsu, Ppsl, Tpsu, Tpsl, Tmi, Dar, Rrr, Rrl, Redd, Wrtd, Retc, Rete, Branch, Zbrr, Zbsr, Bxa, Bsxa}
 use Rattle.cpu.specs.declared.cpu.Cpu.{Cpu}
 
+-- the instruction is WRTD
 unfoldable pub isWrtd : Instruction → Bool
 isWrtd Unknown = false
 isWrtd UnusedPort = false

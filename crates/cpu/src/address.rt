@@ -1,3 +1,4 @@
+// Addresses of fifteen bits in pages of 8,192, and reading through them.
 ghost use mathlib.Core.Path.{_≡_};
 ghost use Prim.Native.Nat.{_<_};
 ghost use lib.Signed.{mag};

@@ -1,3 +1,4 @@
+// Sums, compares, tests, rotates and decimal adjust on bytes, and the PSL that each leaves.
 ghost use mathlib.Core.Path.{_≡_};
 ghost use Prim.Native.Nat.{_<_};
 ghost use Rattle.cpu.specs.Cpu.{bitRS};

@@ -1,3 +1,4 @@
+// Branches, calls and returns.
 ghost use mathlib.Core.Bool.{not};
 ghost use mathlib.Core.Path.{_≡_};
 ghost use Prim.Native.Nat.{_<_};
@@ -105,10 +106,10 @@ fn jump(call: bool, m: PackedCpu, a: Address, next: Address) -> PackedStep
     if call {
         let n = packed_cpu::call(m, next);
         let t = packed_cpu::with_counter(n, a);
-        result::going(t)
+        result::running(t)
     } else {
         let t = packed_cpu::with_counter(m, a);
-        result::going(t)
+        result::running(t)
     }
 }
 
@@ -133,7 +134,7 @@ fn branch_if_taken(
         jump(call, n, t, next)
     } else {
         let t = packed_cpu::with_counter(n, next);
-        result::going(t)
+        result::running(t)
     }
 }
 
@@ -219,10 +220,10 @@ pub(crate) fn return_if(m: PackedCpu, v: u8) -> PackedStep
 {
     if condition_met(packed_cpu::psl(m), v) {
         let n = packed_cpu::return_from_call(m);
-        result::going(n)
+        result::running(n)
     } else {
         let t = result::advanced(m, 1);
-        result::going(t)
+        result::running(t)
     }
 }
 
@@ -239,9 +240,9 @@ pub(crate) fn return_enable(m: PackedCpu, v: u8) -> PackedStep
     if condition_met(packed_cpu::psl(m), v) {
         let n = packed_cpu::return_from_call(m);
         let t = clear_ii(n);
-        result::going(t)
+        result::running(t)
     } else {
         let t = result::advanced(m, 1);
-        result::going(t)
+        result::running(t)
     }
 }

@@ -1,3 +1,4 @@
+// The machine's registers.
 ghost use mathlib.Core.Path.{_≡_};
 ghost use Rattle.cpu.specs.Cpu.{freshCpu};
 use common::Address;

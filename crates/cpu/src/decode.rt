@@ -1,3 +1,4 @@
+// The instruction of each first byte, and how many bytes an instruction has.
 ghost use mathlib.Core.Path.{_≡_};
 ghost use Rattle.cpu.specs.Decode.{eachOfFour, firstAndRest, restAndLast, decodeOf, modeLength, branchLength, instructionLength};
 

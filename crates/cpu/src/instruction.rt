@@ -1,8 +1,9 @@
+// One step: the first byte is fetched and decoded, and its instruction executed.
 ghost use mathlib.Core.Path.{_≡_};
 ghost use Prim.Native.Nat.{_<_};
 ghost use Rattle.cpu.specs.PackedCpu.{cpuOf, stepResultOf, portsOfView};
 ghost use Rattle.cpu.specs.Decode.{instructionLength};
-ghost use Rattle.cpu.specs.Instruction.{executeOf, stepOf};
+ghost use Rattle.cpu.specs.Instruction.{executeOf, instructionStep};
 use crate::address;
 use crate::address::Fetched;
 use crate::alu;
@@ -47,11 +48,11 @@ fn execute(
         }
         Instruction::Nop => {
             let t = result::advanced(m, 1);
-            result::going(t)
+            result::running(t)
         }
         Instruction::Halt => {
             let t = result::advanced(m, 1);
-            result::ended(t, 2, PackedEffect::Nothing)
+            result::step_result(t, 2, PackedEffect::Nothing)
         }
         Instruction::Spsu => {
             let v = psw::psu_with_sense(m, o.unread);
@@ -67,13 +68,13 @@ fn execute(
             let v = packed_cpu::register(m, 0);
             let n = packed_cpu::with_psu(m, psw::stored_psu(v));
             let t = result::advanced(n, 1);
-            result::going(t)
+            result::running(t)
         }
         Instruction::Lpsl => {
             let v = packed_cpu::register(m, 0);
             let n = packed_cpu::with_psl(m, v);
             let t = result::advanced(n, 1);
-            result::going(t)
+            result::running(t)
         }
         Instruction::Cpsu => psw::clear_psu(m, window),
         Instruction::Cpsl => psw::clear_psl(m, window),
@@ -119,7 +120,7 @@ fn execute(
 }
 
 pub(crate) fn step(m: PackedCpu, window: &[u8], source: &[u8], o: PortView) -> PackedStep
-    ensures { λ s. ⌜ stepResultOf s ≡ stepOf (cpuOf m) (now (window .entry)) (portsOfView o (now (source .entry))) ⌝ }
+    ensures { λ s. ⌜ stepResultOf s ≡ instructionStep (cpuOf m) (now (window .entry)) (portsOfView o (now (source .entry))) ⌝ }
 {
     let here = packed_cpu::counter(m);
     let Fetched::Byte(op) = address::fetch(window, here) else {

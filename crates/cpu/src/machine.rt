@@ -1,3 +1,4 @@
+// A run of steps over one partition's bytes.
 ghost use mathlib.Core.Path.{_≡_};
 ghost use Rattle.cpu.specs.Machine.{beyond, machineOf, machineStep};
 ghost use Rattle.common.specs.Repetition.{times};

@@ -1,3 +1,4 @@
+// The operand of each addressing mode, and what is done with it.
 ghost use mathlib.Core.Path.{_≡_};
 ghost use Prim.Native.Nat.{_<_};
 ghost use Rattle.cpu.specs.PackedCpu.{cpuOf, stepResultOf, operandResultOf};
@@ -173,7 +174,7 @@ pub(crate) fn operate_on_operand(
         Access::Read(f) => result::operated(f, n, d, b),
         Access::Write => {
             let v = packed_cpu::register(n, d);
-            result::ended(n, 1, PackedEffect::Store(a.0 as u64, v as u64))
+            result::step_result(n, 1, PackedEffect::Store(a.0 as u64, v as u64))
         }
     }
 }

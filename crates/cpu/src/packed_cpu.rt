@@ -1,8 +1,9 @@
+// The state of a run, packed into words.
 ghost use mathlib.Core.Path.{_≡_};
 ghost use mathlib.Core.List.{[], _∷_};
 ghost use Prim.Native.Nat.{_<_};
 ghost use Rattle.cpu.specs.PackedCpu.{byteAt, setByte, quarterAt, setQuarter, registerBytes, inBankOrder, cpuOf};
-ghost use Rattle.cpu.specs.Cpu.{bitRS, counterOf, psuOf, pslOf, registerOf, returnOf, withCounter, withRegister, withPsu, withPsl, withReturn, calledOf, returnedOf};
+ghost use Rattle.cpu.specs.Cpu.{bitRS, counterOf, psuOf, pslOf, registerOf, returnOf, withCounter, withRegister, withPsu, withPsl, withReturn, callOf, returnFromCallOf};
 use crate::cpu::Cpu;
 use common::Address;
 
@@ -157,7 +158,7 @@ fn with_return(m: PackedCpu, sp: u8, a: Address) -> PackedCpu
 }
 
 pub(crate) fn call(m: PackedCpu, back: Address) -> PackedCpu
-    ensures { λ n. ⌜ cpuOf n ≡ calledOf (cpuOf m) back ⌝ }
+    ensures { λ n. ⌜ cpuOf n ≡ callOf (cpuOf m) back ⌝ }
 {
     let u = psu(m);
     let sp = (u % 8 + 1) % 8;
@@ -166,7 +167,7 @@ pub(crate) fn call(m: PackedCpu, back: Address) -> PackedCpu
 }
 
 pub(crate) fn return_from_call(m: PackedCpu) -> PackedCpu
-    ensures { λ n. ⌜ cpuOf n ≡ returnedOf (cpuOf m) ⌝ }
+    ensures { λ n. ⌜ cpuOf n ≡ returnFromCallOf (cpuOf m) ⌝ }
 {
     let u = psu(m);
     let sp = u % 8;

@@ -1,9 +1,10 @@
+// A partition's parts by their bounds: what a step sees of them, and what it writes.
 ghost use mathlib.Core.Path.{_≡_};
 ghost use Prim.Native.Nat.{_<_, _≤_, min};
 ghost use lib.ListN.{length, take};
 ghost use Rattle.cpu.specs.PackedCpu.{cpuOf, stepResultOf, portsOfView};
 ghost use Rattle.cpu.specs.Partition.{boundsOf, BoundsHold, portViewOf, partitionAfter, applyEffectOf};
-ghost use Rattle.cpu.specs.Instruction.{stepOf};
+ghost use Rattle.cpu.specs.Instruction.{instructionStep};
 use crate::instruction;
 use crate::packed_cpu::PackedCpu;
 use crate::result::PackedEffect;
@@ -83,7 +84,7 @@ pub(crate) fn step_in_partition(
     requires { ⌜ b .«output_start» < 131072 ⌝ }
     requires { ⌜ k .read < 65536 ⌝ }
     requires { ⌜ k .written < 65536 ⌝ }
-    ensures { λ s. ⌜ stepResultOf s ≡ stepOf (cpuOf m) (take (b .«window_end») (now (partition .entry))) (portsOfView (portViewOf b k) (take (b .«input_end») (now (partition .entry)))) ⌝ }
+    ensures { λ s. ⌜ stepResultOf s ≡ instructionStep (cpuOf m) (take (b .«window_end») (now (partition .entry))) (portsOfView (portViewOf b k) (take (b .«input_end») (now (partition .entry)))) ⌝ }
 {
     let o = port_view(b, k);
     let window_end = b.window_end;

@@ -1,3 +1,4 @@
+// The data port.
 ghost use mathlib.Core.Path.{_≡_};
 ghost use Prim.Native.Nat.{_<_};
 ghost use lib.ListN.{getD};
@@ -27,7 +28,7 @@ pub(crate) fn read_data(m: PackedCpu, source: &[u8], o: PortView, r: u8) -> Pack
         let v = alu::load_result(p, b);
         let n = result::with_alu_result(m, r, v);
         let t = result::advanced(n, 1);
-        result::ended(t, 1, PackedEffect::Take)
+        result::step_result(t, 1, PackedEffect::Take)
     } else {
         result::stopped(m, 3)
     }
@@ -42,6 +43,6 @@ pub(crate) fn write_data(m: PackedCpu, source: &[u8], o: PortView, r: u8) -> Pac
     } else {
         let v = packed_cpu::register(m, r);
         let t = result::advanced(m, 1);
-        result::ended(t, 1, PackedEffect::Put(v as u64))
+        result::step_result(t, 1, PackedEffect::Put(v as u64))
     }
 }

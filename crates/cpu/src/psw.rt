@@ -1,3 +1,4 @@
+// Sense, and the instructions with a mask in their second byte.
 ghost use mathlib.Core.Path.{_≡_};
 ghost use Prim.Native.Nat.{_-_};
 ghost use lib.Bits.{bitAnd, bitOr};
@@ -37,7 +38,7 @@ pub(crate) fn clear_psu(m: PackedCpu, window: &[u8]) -> PackedStep
     let v = stored_psu(u & (255 - mask));
     let n = packed_cpu::with_psu(m, v);
     let t = result::advanced(n, 2);
-    result::going(t)
+    result::running(t)
 }
 
 pub(crate) fn clear_psl(m: PackedCpu, window: &[u8]) -> PackedStep
@@ -50,7 +51,7 @@ pub(crate) fn clear_psl(m: PackedCpu, window: &[u8]) -> PackedStep
     let u = packed_cpu::psl(m);
     let n = packed_cpu::with_psl(m, u & (255 - mask));
     let t = result::advanced(n, 2);
-    result::going(t)
+    result::running(t)
 }
 
 pub(crate) fn preset_psu(m: PackedCpu, window: &[u8]) -> PackedStep
@@ -64,7 +65,7 @@ pub(crate) fn preset_psu(m: PackedCpu, window: &[u8]) -> PackedStep
     let v = stored_psu(u | mask);
     let n = packed_cpu::with_psu(m, v);
     let t = result::advanced(n, 2);
-    result::going(t)
+    result::running(t)
 }
 
 pub(crate) fn preset_psl(m: PackedCpu, window: &[u8]) -> PackedStep
@@ -77,7 +78,7 @@ pub(crate) fn preset_psl(m: PackedCpu, window: &[u8]) -> PackedStep
     let u = packed_cpu::psl(m);
     let n = packed_cpu::with_psl(m, u | mask);
     let t = result::advanced(n, 2);
-    result::going(t)
+    result::running(t)
 }
 
 pub(crate) fn tested(m: PackedCpu, window: &[u8], v: u8) -> PackedStep
@@ -92,5 +93,5 @@ pub(crate) fn tested(m: PackedCpu, window: &[u8], v: u8) -> PackedStep
     let p = alu::with_cc(u, cc);
     let n = packed_cpu::with_psl_in_bank(m, p);
     let t = result::advanced(n, 2);
-    result::going(t)
+    result::running(t)
 }

@@ -1,7 +1,8 @@
+// What a step comes to, and the ways in which one ends.
 ghost use mathlib.Core.Path.{_≡_};
 ghost use Prim.Native.Nat.{_<_};
 ghost use Rattle.cpu.specs.PackedCpu.{cpuOf, effectOf, stepResultOf};
-ghost use Rattle.cpu.specs.Result.{endedOf, goingOf, stoppedOf, addressAfter, advancedOf, withAluResult, registerChangedOf, operatedOf};
+ghost use Rattle.cpu.specs.Result.{stepResult, runningOf, stoppedOf, addressAfter, advancedOf, withAluResult, registerChangedOf, operatedOf};
 ghost use Rattle.cpu.specs.Cpu.{bitRS, pslOf};
 use crate::address;
 use crate::alu;
@@ -33,8 +34,8 @@ pub struct PortView {
     pub full: bool,
 }
 
-pub(crate) fn ended(m: PackedCpu, status: u8, effect: PackedEffect) -> PackedStep
-    ensures { λ n. ⌜ stepResultOf n ≡ endedOf (cpuOf m) status (effectOf effect) ⌝ }
+pub(crate) fn step_result(m: PackedCpu, status: u8, effect: PackedEffect) -> PackedStep
+    ensures { λ n. ⌜ stepResultOf n ≡ stepResult (cpuOf m) status (effectOf effect) ⌝ }
 {
     PackedStep {
         cpu: m,
@@ -43,8 +44,8 @@ pub(crate) fn ended(m: PackedCpu, status: u8, effect: PackedEffect) -> PackedSte
     }
 }
 
-pub(crate) fn going(m: PackedCpu) -> PackedStep
-    ensures { λ n. ⌜ stepResultOf n ≡ goingOf (cpuOf m) ⌝ }
+pub(crate) fn running(m: PackedCpu) -> PackedStep
+    ensures { λ n. ⌜ stepResultOf n ≡ runningOf (cpuOf m) ⌝ }
 {
     PackedStep {
         cpu: m,
@@ -96,7 +97,7 @@ pub(crate) fn register_changed(m: PackedCpu, r: u8, o: AluResult) -> PackedStep
 {
     let n = with_alu_result(m, r, o);
     let t = advanced(n, 1);
-    going(t)
+    running(t)
 }
 
 pub(crate) fn operated(f: Operation, m: PackedCpu, r: u8, b: u8) -> PackedStep
@@ -107,5 +108,5 @@ pub(crate) fn operated(f: Operation, m: PackedCpu, r: u8, b: u8) -> PackedStep
     let p = packed_cpu::psl(m);
     let o = alu::operate(f, p, v, b);
     let n = with_alu_result(m, r, o);
-    going(n)
+    running(n)
 }

@@ -17,7 +17,7 @@ impl State {
     pub const LAST_STATUS: u8 = 7;
 
     // Status 0, and nothing in the buffers.
-    pub fn at_rest(cpu: Cpu) -> State
+    pub fn resting(cpu: Cpu) -> State
         ensures { λ s. ⌜ s ≡ restingState cpu ⌝ }
     {
         State {

@@ -38,26 +38,26 @@ stateBytes s =
     )
 
 -- the state that bytes hold
-unfoldable pub registersAt : List ℕ → List ℕ
-registersAt bytes = tabulate 7 (λ i. getD bytes (2 + i) 0)
+unfoldable pub registersFromBytes : List ℕ → List ℕ
+registersFromBytes bytes = tabulate 7 (λ i. getD bytes (2 + i) 0)
 
-unfoldable pub returnsAt : List ℕ → List ℕ
-returnsAt bytes = u16sAt bytes 11 8
+unfoldable pub returnsFromBytes : List ℕ → List ℕ
+returnsFromBytes bytes = u16sAt bytes 11 8
 
-unfoldable pub cpuAt : List ℕ → Cpu
-cpuAt bytes =
+unfoldable pub cpuFromBytes : List ℕ → Cpu
+cpuFromBytes bytes =
     record {
       counter = u16At bytes 0;
-      registers = registersAt bytes;
+      registers = registersFromBytes bytes;
       psu = getD bytes 9 0;
       psl = getD bytes 10 0;
-      returns = returnsAt bytes;
+      returns = returnsFromBytes bytes;
     }
 
-unfoldable pub stateAt : List ℕ → State
-stateAt bytes =
+unfoldable pub stateFromBytes : List ℕ → State
+stateFromBytes bytes =
     record {
-      cpu = cpuAt bytes;
+      cpu = cpuFromBytes bytes;
       status = getD bytes 27 0;
       filled = u16At bytes 28;
       read = u16At bytes 30;

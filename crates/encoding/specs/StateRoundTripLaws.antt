@@ -11,39 +11,39 @@ use Rattle.cpu.specs.declared.state.State.{State}
 use Rattle.slices.specs.NumberLaws.{u16-back, u16-again, u16s-again}
 use Rattle.slices.specs.PieceLaws.{list-tabulated, part-tabulated, parts-concat}
 use Rattle.slices.specs.Slices.{Bytes, concat, tabulate}
-use Rattle.encoding.specs.StateEncoding.{stateLength, stateBytes, stateAt, cpuAt, registersAt, returnsAt}
+use Rattle.encoding.specs.StateEncoding.{stateLength, stateBytes, stateFromBytes, cpuFromBytes, registersFromBytes, returnsFromBytes}
 
 -- a state has seven registers and eight return addresses: in the code by their types
-abbrev pub Shaped : State → Type 0
-Shaped s = CpuShaped (s .cpu)
+abbrev pub StateShaped : State → Type 0
+StateShaped s = CpuShaped (s .cpu)
 
 -- what bytes hold has these lengths
-pub state-shaped : (l : List ℕ) → Shaped (stateAt l)
-unfolding stateAt cpuAt registersAt returnsAt
+pub state-shaped : (l : List ℕ) → StateShaped (stateFromBytes l)
+unfolding stateFromBytes cpuFromBytes registersFromBytes returnsFromBytes
 state-shaped l = record { registers = refl; returns = refl }
 
 -- a state with its registers and return addresses written out
-abbrev stateBy : State → List ℕ → List ℕ → State
-stateBy s registers returns =
+abbrev stateWithLists : State → List ℕ → List ℕ → State
+stateWithLists s registers returns =
     withCpu (record { counter = s .cpu .counter; registers = registers; psu = s .cpu .psu; psl = s .cpu .psl; returns = returns }) s
 
-abbrev spelled : State → State
-spelled s = stateBy s (tabulate 7 (λ i. getD (s .cpu .registers) i 0)) (tabulate 8 (λ i. getD (s .cpu .returns) i 0))
+abbrev stateByElements : State → State
+stateByElements s = stateWithLists s (tabulate 7 (λ i. getD (s .cpu .registers) i 0)) (tabulate 8 (λ i. getD (s .cpu .returns) i 0))
 
-spelled-same : (s : State) → Shaped s → s ≡ spelled s
-spelled-same s h =
-    λ j. stateBy s (list-tabulated 7 (s .cpu .registers) (h .registers) j) (list-tabulated 8 (s .cpu .returns) (h .returns) j)
+state-by-elements : (s : State) → StateShaped s → s ≡ stateByElements s
+state-by-elements s h =
+    λ j. stateWithLists s (list-tabulated 7 (s .cpu .registers) (h .registers) j) (list-tabulated 8 (s .cpu .returns) (h .returns) j)
 
-spelled-length : (s : State) → length (stateBytes (spelled s)) ≡ stateLength
+state-by-elements-length : (s : State) → length (stateBytes (stateByElements s)) ≡ stateLength
 unfolding stateBytes
-spelled-length s = refl
+state-by-elements-length s = refl
 
-pub state-length : (s : State) → Shaped s → length (stateBytes s) ≡ stateLength
-state-length s h = ap (λ (z : State). length (stateBytes z)) (spelled-same s h) ∙ spelled-length s
+pub state-length : (s : State) → StateShaped s → length (stateBytes s) ≡ stateLength
+state-length s h = ap (λ (z : State). length (stateBytes z)) (state-by-elements s h) ∙ state-by-elements-length s
 
-spelled-back : (s : State) → stateAt (stateBytes (spelled s)) ≡ spelled s
-unfolding stateBytes stateAt cpuAt registersAt returnsAt
-spelled-back s =
+state-by-elements-back : (s : State) → stateFromBytes (stateBytes (stateByElements s)) ≡ stateByElements s
+unfolding stateBytes stateFromBytes cpuFromBytes registersFromBytes returnsFromBytes
+state-by-elements-back s =
     λ j.
     record {
       cpu =
@@ -61,12 +61,12 @@ spelled-back s =
     }
 
 -- a state's bytes hold that state
-pub state-decoded : (s : State) → Shaped s → stateAt (stateBytes s) ≡ s
-state-decoded s h = ap (λ (t : State). stateAt (stateBytes t)) (spelled-same s h) ∙ spelled-back s ∙ sym (spelled-same s h)
+pub state-decoded : (s : State) → StateShaped s → stateFromBytes (stateBytes s) ≡ s
+state-decoded s h = ap (λ (t : State). stateFromBytes (stateBytes t)) (state-by-elements s h) ∙ state-by-elements-back s ∙ sym (state-by-elements s h)
 
 -- so many bytes are those of the state that they hold
-pub state-encoded : (l : List ℕ) → length l ≡ stateLength → Bytes l → stateBytes (stateAt l) ≡ l
-unfolding stateBytes stateAt cpuAt registersAt returnsAt
+pub state-encoded : (l : List ℕ) → length l ≡ stateLength → Bytes l → stateBytes (stateFromBytes l) ≡ l
+unfolding stateBytes stateFromBytes cpuFromBytes registersFromBytes returnsFromBytes
 state-encoded l h small =
     (λ j.
     concat (

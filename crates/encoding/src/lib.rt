@@ -2,5 +2,5 @@
 mod state_encoding;
 
 pub use state_encoding::STATE_LENGTH;
-pub use state_encoding::decode;
-pub use state_encoding::encode;
+pub use state_encoding::decode_state;
+pub use state_encoding::encode_state;

@@ -1,6 +1,6 @@
 // A machine's state as bytes, and back.
 ghost use mathlib.Core.Path.{_≡_};
-ghost use Rattle.encoding.specs.StateEncoding.{cpuAt, registersAt, returnsAt, stateAt, stateBytes};
+ghost use Rattle.encoding.specs.StateEncoding.{cpuFromBytes, registersFromBytes, returnsFromBytes, stateFromBytes, stateBytes};
 use cpu::Cpu;
 use cpu::State;
 use slices::byte;
@@ -13,8 +13,8 @@ use slices::u16_at;
 // How many bytes a state has.
 pub const STATE_LENGTH: usize = 34;
 
-fn registers(bytes: &[u8]) -> [u8; 7]
-    ensures { λ l. ⌜ l ≡ registersAt (now (bytes .entry)) ⌝ }
+fn decode_registers(bytes: &[u8]) -> [u8; 7]
+    ensures { λ l. ⌜ l ≡ registersFromBytes (now (bytes .entry)) ⌝ }
 {
     let mut registers = [0u8; 7];
     let mut i: usize = 0;
@@ -25,8 +25,8 @@ fn registers(bytes: &[u8]) -> [u8; 7]
     registers
 }
 
-fn returns(bytes: &[u8]) -> [u16; 8]
-    ensures { λ l. ⌜ l ≡ returnsAt (now (bytes .entry)) ⌝ }
+fn decode_returns(bytes: &[u8]) -> [u16; 8]
+    ensures { λ l. ⌜ l ≡ returnsFromBytes (now (bytes .entry)) ⌝ }
 {
     let mut returns = [0u16; 8];
     let mut i: usize = 0;
@@ -38,13 +38,13 @@ fn returns(bytes: &[u8]) -> [u16; 8]
 }
 
 fn decode_cpu(bytes: &[u8]) -> Cpu
-    ensures { λ c. ⌜ c ≡ cpuAt (now (bytes .entry)) ⌝ }
+    ensures { λ c. ⌜ c ≡ cpuFromBytes (now (bytes .entry)) ⌝ }
 {
     let counter = u16_at(bytes, 0);
-    let registers = registers(bytes);
+    let registers = decode_registers(bytes);
     let psu = byte(bytes, 9);
     let psl = byte(bytes, 10);
-    let returns = returns(bytes);
+    let returns = decode_returns(bytes);
     Cpu {
         counter,
         registers,
@@ -55,8 +55,8 @@ fn decode_cpu(bytes: &[u8]) -> Cpu
 }
 
 // The state that bytes hold; bytes past the end count as 0.
-pub fn decode(bytes: &[u8]) -> State
-    ensures { λ s. ⌜ s ≡ stateAt (now (bytes .entry)) ⌝ }
+pub fn decode_state(bytes: &[u8]) -> State
+    ensures { λ s. ⌜ s ≡ stateFromBytes (now (bytes .entry)) ⌝ }
 {
     let cpu = decode_cpu(bytes);
     let status = byte(bytes, 27);
@@ -73,9 +73,9 @@ pub fn decode(bytes: &[u8]) -> State
 }
 
 // A state's bytes, one field behind the other.
-pub fn encode(state: State) -> [u8; STATE_LENGTH]
+pub fn encode_state(state: State) -> [u8; STATE_LENGTH]
     ensures { λ b. ⌜ b ≡ stateBytes state ⌝ }
-    ensures { λ b. ⌜ stateAt b ≡ state ⌝ }
+    ensures { λ b. ⌜ stateFromBytes b ≡ state ⌝ }
 {
     let cpu = state.cpu;
     let registers = cpu.registers;

@@ -9,7 +9,6 @@ use borrow.Author.Tests.{eq-eqb, ne-eqb, eqb-true, lt-ltb, le-ltb}
 use lib.Dec.{eqb}
 use lib.ListN.{length, drop}
 use Rattle.common.specs.Choice.{if_then_else_}
-use Rattle.common.specs.Refusals.{unless, refusalBy}
 use Rattle.common.specs.declared.places.Location.{Location}
 use Rattle.slices.specs.SliceLaws.{copied-front}
 use Rattle.slices.specs.Slices.{copied}
@@ -20,23 +19,24 @@ use Rattle.supervisor.specs.System.{System, system, slotOf}
 use Rattle.supervisor.specs.Table.{newRefusal, newTable}
 use Rattle.supervisor.specs.declared.reported.Report.{Report}
 use Rattle.supervisor.specs.declared.table.Table.{Table}
-use Rattle.host.specs.HostCalls.{answerOf, lentSystem, bytesAfter, answered, hostNew, host, hosted, hostAfterCall, hostOutcome, hostDrained, reportBytes, reportLength, hostReportRefusal, hostReport}
-use Rattle.host.specs.TableEncoding.{tableAt, tableLength}
+use Rattle.host.specs.HostCalls.{answerOf, lentSystem, bytesAfter, bufferOutcome, hostNew, host, hostOutcome, hostAfterCall, hostOutcomeOf, hostDrained, reportBytes, reportLength, hostReportRefusal, hostReport}
+use Rattle.host.specs.TableEncoding.{tableFromBytes, tableLength}
+use Rattle.common.specs.RefusalDefinitions.{condition-definitions}
 
 -- ---- calls with a table and a memory
 
-pub other-length : (count : ℕ) (c : Call) (table memory : List ℕ) (a : ℕ) → (length table ≡ tableLength → ⊥) → a ≡ answerOf 1 0 → hosted a table memory ≡ hostOutcome c count (host table memory)
-unfolding hostOutcome hostAfterCall if_then_else_
+pub other-length : (count : ℕ) (c : Call) (table memory : List ℕ) (a : ℕ) → (length table ≡ tableLength → ⊥) → a ≡ answerOf 1 0 → hostOutcome a table memory ≡ hostOutcomeOf c count (host table memory)
+unfolding hostOutcomeOf hostAfterCall if_then_else_
 other-length count c table memory a h e = rw (ne-eqb (length table) tableLength h, e)
 
-module _ (c : Call) (table memory : List ℕ) (before : Table) (n : ℕ) (after : Table) (left : List ℕ) (whole : length table ≡ tableLength) (decoded : before ≡ tableAt table)
+module _ (c : Call) (table memory : List ℕ) (before : Table) (n : ℕ) (after : Table) (left : List ℕ) (whole : length table ≡ tableLength) (decoded : before ≡ tableFromBytes table)
     (done : outcome n after left ≡ outcomeOf c (system before memory)) where
   call-made : outcome n after left ≡ outcomeOf c (lentSystem table memory)
   call-made = done ∙ ap (λ (t : Table). outcomeOf c (system t memory)) decoded
 
-  call-number : n ≡ refusal c (lentSystem table memory)
+  call-refusal : n ≡ refusal c (lentSystem table memory)
   unfolding outcomeOf
-  call-number = ap (λ (o : Outcome). o .number) call-made
+  call-refusal = ap (λ (o : Outcome). o .refusal) call-made
 
   table-after : after ≡ afterCall c (lentSystem table memory) .table
   unfolding outcomeOf
@@ -46,9 +46,9 @@ module _ (c : Call) (table memory : List ℕ) (before : Table) (n : ℕ) (after 
   unfolding outcomeOf
   memory-after = ap (λ (o : Outcome). o .after .memory) call-made
 
-  pub call-stored : (count : ℕ) {given : ℕ} (a : ℕ) (b : List ℕ) → count ≡ given → a ≡ answerOf n count → b ≡ bytesAfter n after table → hosted a b left ≡ hostOutcome c given (host table memory)
-  unfolding hostOutcome hostAfterCall if_then_else_
-  call-stored count a b few answer stored = rw (eq-eqb (length table) tableLength whole, answer, stored, few, call-number, table-after, memory-after)
+  pub call-stored : (count : ℕ) {given : ℕ} (a : ℕ) (b : List ℕ) → count ≡ given → a ≡ answerOf n count → b ≡ bytesAfter n after table → hostOutcome a b left ≡ hostOutcomeOf c given (host table memory)
+  unfolding hostOutcomeOf hostAfterCall if_then_else_
+  call-stored count a b few answer stored = rw (eq-eqb (length table) tableLength whole, answer, stored, few, call-refusal, table-after, memory-after)
 
 -- ---- a load
 
@@ -79,58 +79,58 @@ drained-few x k room = go (eqb (refusal (change k (drain room)) x) 0) refl
     go false e = omega arith
 
 -- the count of a decoded table's drain
-pub decoded-count : (table memory : List ℕ) (k room n : ℕ) (before : Table) → before ≡ tableAt table → n ≡ drainedCount (system before memory) k room → n ≡ drainedCount (lentSystem table memory) k room
+pub decoded-count : (table memory : List ℕ) (k room n : ℕ) (before : Table) → before ≡ tableFromBytes table → n ≡ drainedCount (system before memory) k room → n ≡ drainedCount (lentSystem table memory) k room
 decoded-count table memory k room n before decoded e = e ∙ ap (λ (t : Table). drainedCount (system t memory) k room) decoded
 
 pub buffer-left : (table memory : List ℕ) (k : ℕ) (buffer : List ℕ) → (length table ≡ tableLength → ⊥) → buffer ≡ hostDrained table memory k buffer
 unfolding hostDrained if_then_else_
 buffer-left table memory k buffer h = rw (ne-eqb (length table) tableLength h)
 
-pub buffer-drained : (table memory : List ℕ) (k : ℕ) (buffer b : List ℕ) (before : Table) → length table ≡ tableLength → before ≡ tableAt table → b ≡ drainedBuffer (system before memory) k buffer → b ≡ hostDrained table memory k buffer
+pub buffer-drained : (table memory : List ℕ) (k : ℕ) (buffer b : List ℕ) (before : Table) → length table ≡ tableLength → before ≡ tableFromBytes table → b ≡ drainedBuffer (system before memory) k buffer → b ≡ hostDrained table memory k buffer
 unfolding hostDrained if_then_else_
 buffer-drained table memory k buffer b before whole decoded e = rw (eq-eqb (length table) tableLength whole, e, decoded)
 
 -- ---- a report
 
-either-number : (b : Bool) (n : ℕ) (x y : Report) → (b ≡ true → x .refusal ≡ n) → y .refusal ≡ n → _≡_ {A = ℕ} ((if b then x else y) .refusal) n
+either-refusal : (b : Bool) (n : ℕ) (x y : Report) → (b ≡ true → x .refusal ≡ n) → y .refusal ≡ n → _≡_ {A = ℕ} ((if b then x else y) .refusal) n
 unfolding if_then_else_
-either-number true n x y h k = h refl
-either-number false n x y h k = k
+either-refusal true n x y h k = h refl
+either-refusal false n x y h k = k
 
-report-number : (t : Table) (k : ℕ) → reportOf t k .refusal ≡ queryRefusal (report k) t
+report-refusal : (t : Table) (k : ℕ) → reportOf t k .refusal ≡ queryRefusal (report k) t
 unfolding reportOf
-report-number t k = either-number (eqb (queryRefusal (report k) t) 0) (queryRefusal (report k) t) _ _ (λ e. sym (eqb-true (queryRefusal (report k) t) 0 e)) refl
+report-refusal t k = either-refusal (eqb (queryRefusal (report k) t) 0) (queryRefusal (report k) t) _ _ (λ e. sym (eqb-true (queryRefusal (report k) t) 0 e)) refl
 
 module _ (table : List ℕ) (k : ℕ) (buffer : List ℕ) where
-  pub report-other : (a : ℕ) → (length table ≡ tableLength → ⊥) → a ≡ answerOf 1 0 → answered a buffer ≡ hostReport table k buffer
-  unfolding hostReport hostReportRefusal refusalBy unless if_then_else_
+  pub report-other : (a : ℕ) → (length table ≡ tableLength → ⊥) → a ≡ answerOf 1 0 → bufferOutcome a buffer ≡ hostReport table k buffer
+  unfolding condition-definitions hostReport hostReportRefusal
   report-other a h e = rw (ne-eqb (length table) tableLength h, e)
 
-  module _ (whole : length table ≡ tableLength) (before : Table) (r : Report) (decoded : before ≡ tableAt table) (call-made : r ≡ reportOf before k) where
-    report-is : r ≡ reportOf (tableAt table) k
+  module _ (whole : length table ≡ tableLength) (before : Table) (r : Report) (decoded : before ≡ tableFromBytes table) (call-made : r ≡ reportOf before k) where
+    report-is : r ≡ reportOf (tableFromBytes table) k
     report-is = call-made ∙ ap (λ (t : Table). reportOf t k) decoded
 
-    number-is : r .refusal ≡ queryRefusal (report k) (tableAt table)
-    number-is = ap (λ (x : Report). x .refusal) report-is ∙ report-number (tableAt table) k
+    refusal-is : r .refusal ≡ queryRefusal (report k) (tableFromBytes table)
+    refusal-is = ap (λ (x : Report). x .refusal) report-is ∙ report-refusal (tableFromBytes table) k
 
-    pub report-refused : (a : ℕ) → (r .refusal ≡ 0 → ⊥) → a ≡ answerOf (r .refusal) 0 → answered a buffer ≡ hostReport table k buffer
-    unfolding hostReport hostReportRefusal refusalBy unless if_then_else_
+    pub report-refused : (a : ℕ) → (r .refusal ≡ 0 → ⊥) → a ≡ answerOf (r .refusal) 0 → bufferOutcome a buffer ≡ hostReport table k buffer
+    unfolding condition-definitions hostReport hostReportRefusal
     report-refused a h e =
-        let n : eqb (queryRefusal (report k) (tableAt table)) 0 ≡ false = ne-eqb _ _ (λ z. h (number-is ∙ z)) in
-        rw (eq-eqb (length table) tableLength whole, n, e, number-is) (rw n refl)
+        let n : eqb (queryRefusal (report k) (tableFromBytes table)) 0 ≡ false = ne-eqb _ _ (λ z. h (refusal-is ∙ z)) in
+        rw (eq-eqb (length table) tableLength whole, n, e, refusal-is) (rw n refl)
 
     module _ (none : r .refusal ≡ 0) where
-      pub report-short : (a : ℕ) → length buffer < reportLength → a ≡ answerOf 16 0 → answered a buffer ≡ hostReport table k buffer
-      unfolding hostReport hostReportRefusal refusalBy unless if_then_else_
+      pub report-short : (a : ℕ) → length buffer < reportLength → a ≡ answerOf 16 0 → bufferOutcome a buffer ≡ hostReport table k buffer
+      unfolding condition-definitions hostReport hostReportRefusal
       report-short a h e =
-          let n : queryRefusal (report k) (tableAt table) ≡ 0 = sym number-is ∙ none in
+          let n : queryRefusal (report k) (tableFromBytes table) ≡ 0 = sym refusal-is ∙ none in
           rw (eq-eqb (length table) tableLength whole, n, lt-ltb (length buffer) reportLength h, e)
 
-      pub report-made : (a : ℕ) (b : List ℕ) → reportLength ≤ length buffer → a ≡ answerOf 0 0 → length (reportBytes r) ≡ reportLength → b ≡ copied buffer 0 (reportBytes r) → answered a b ≡ hostReport table k buffer
-      unfolding hostReport hostReportRefusal refusalBy unless if_then_else_
+      pub report-made : (a : ℕ) (b : List ℕ) → reportLength ≤ length buffer → a ≡ answerOf 0 0 → length (reportBytes r) ≡ reportLength → b ≡ copied buffer 0 (reportBytes r) → bufferOutcome a b ≡ hostReport table k buffer
+      unfolding condition-definitions hostReport hostReportRefusal
       report-made a b h e size put =
-          let n : queryRefusal (report k) (tableAt table) ≡ 0 = sym number-is ∙ none in
-          let front : b ≡ reportBytes (reportOf (tableAt table) k) ++ drop reportLength buffer =
+          let n : queryRefusal (report k) (tableFromBytes table) ≡ 0 = sym refusal-is ∙ none in
+          let front : b ≡ reportBytes (reportOf (tableFromBytes table) k) ++ drop reportLength buffer =
           put
           ∙ copied-front buffer (reportBytes r) (omega arith)
           ∙ ap (λ (i : ℕ). reportBytes r ++ drop i buffer) size
@@ -140,10 +140,10 @@ module _ (table : List ℕ) (k : ℕ) (buffer : List ℕ) where
 
 -- ---- a new table
 
-pub new-other : (size : ℕ) (table : List ℕ) (a : ℕ) → (length table ≡ tableLength → ⊥) → a ≡ answerOf 1 0 → answered a table ≡ hostNew size table
+pub new-other : (size : ℕ) (table : List ℕ) (a : ℕ) → (length table ≡ tableLength → ⊥) → a ≡ answerOf 1 0 → bufferOutcome a table ≡ hostNew size table
 unfolding hostNew if_then_else_
 new-other size table a h e = rw (ne-eqb (length table) tableLength h, e)
 
-pub new-made : (size : ℕ) (table : List ℕ) (a n : ℕ) (t : Table) (b : List ℕ) → length table ≡ tableLength → n ≡ newRefusal size → t ≡ newTable size → a ≡ answerOf n 0 → b ≡ bytesAfter n t table → answered a b ≡ hostNew size table
+pub new-made : (size : ℕ) (table : List ℕ) (a n : ℕ) (t : Table) (b : List ℕ) → length table ≡ tableLength → n ≡ newRefusal size → t ≡ newTable size → a ≡ answerOf n 0 → b ≡ bytesAfter n t table → bufferOutcome a b ≡ hostNew size table
 unfolding hostNew if_then_else_
-new-made size table a n t b whole call-number call-made answer stored = rw (eq-eqb (length table) tableLength whole, answer, stored, call-number, call-made)
+new-made size table a n t b whole call-refusal call-made answer stored = rw (eq-eqb (length table) tableLength whole, answer, stored, call-refusal, call-made)

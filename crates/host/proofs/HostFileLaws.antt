@@ -7,7 +7,7 @@ use native.Mathlib.Omega.{arith}
 use lib.ListN.{length, drop}
 use Rattle.common.specs.Choice.{if_then_else_}
 use Rattle.pattern.specs.Reader.{readOf}
-use Rattle.pattern.specs.Parameters.{formOf, parametersLength, parametersBytes, parametersAt}
+use Rattle.pattern.specs.Parameters.{formOf, parametersLength, parametersBytes, parametersFromBytes}
 use Rattle.pattern.specs.ParameterLaws.{parameters-length}
 use Rattle.pattern.specs.Writer.{writeOf, writtenBuffer}
 use Rattle.pattern.specs.declared.reader.ReadResult.{ReadResult}
@@ -16,32 +16,32 @@ use Rattle.pattern.specs.declared.parameters.Parameters.{Parameters}
 use Rattle.pattern.specs.declared.writer.WriteResult.{WriteResult}
 use Rattle.slices.specs.SliceLaws.{copied-front}
 use Rattle.slices.specs.Slices.{copied}
-use Rattle.host.specs.HostCalls.{answerOf, answered}
+use Rattle.host.specs.HostCalls.{answerOf, bufferOutcome}
 use Rattle.host.specs.PatternFiles.{hostRead, writtenAnswer, hostWrite}
 
 -- by the reader's answer x, which is a case y
 module _ (file buffer : List ℕ) (x : ReadResult) (read : x ≡ readOf file) where
-  pub read-refused : (n a : ℕ) → x ≡ Refused n → a ≡ answerOf n 0 → answered a buffer ≡ hostRead (readOf file) buffer
+  pub read-refused : (n a : ℕ) → x ≡ Refused n → a ≡ answerOf n 0 → bufferOutcome a buffer ≡ hostRead (readOf file) buffer
   unfolding hostRead
   read-refused n a e answer = rw (← read, e, answer)
 
   module _ (v : Parameters) (e : x ≡ Accepted v) where
-    pub read-short : (a : ℕ) → length buffer < parametersLength (formOf v) → a ≡ answerOf 16 0 → answered a buffer ≡ hostRead (readOf file) buffer
+    pub read-short : (a : ℕ) → length buffer < parametersLength (formOf v) → a ≡ answerOf 16 0 → bufferOutcome a buffer ≡ hostRead (readOf file) buffer
     unfolding hostRead if_then_else_
     read-short a h answer = rw (← read, e, lt-ltb (length buffer) (parametersLength (formOf v)) h, answer)
 
-    pub read-made : (a : ℕ) (b : List ℕ) → parametersLength (formOf v) ≤ length buffer → a ≡ answerOf 0 0 → b ≡ copied buffer 0 (parametersBytes v) → answered a b ≡ hostRead (readOf file) buffer
+    pub read-made : (a : ℕ) (b : List ℕ) → parametersLength (formOf v) ≤ length buffer → a ≡ answerOf 0 0 → b ≡ copied buffer 0 (parametersBytes v) → bufferOutcome a b ≡ hostRead (readOf file) buffer
     unfolding hostRead if_then_else_
     read-made a b h answer put = rw (← read, e, le-ltb (length buffer) (parametersLength (formOf v)) h, answer, put ∙ copied-front buffer (parametersBytes v) (omega (arith, parameters-length v)) ∙ ap (λ (n : ℕ). parametersBytes v ++ drop n buffer) (parameters-length v))
 
 -- by the writer's answer x
 module _ (parameters image input buffer : List ℕ) where
-  pub write-other : (a : ℕ) → (length parameters ≡ parametersLength (formOf (parametersAt parameters)) → ⊥) → a ≡ answerOf 9 0 → answered a buffer ≡ hostWrite parameters image input buffer
+  pub write-other : (a : ℕ) → (length parameters ≡ parametersLength (formOf (parametersFromBytes parameters)) → ⊥) → a ≡ answerOf 9 0 → bufferOutcome a buffer ≡ hostWrite parameters image input buffer
   unfolding hostWrite if_then_else_
-  write-other a h answer = rw (ne-eqb (length parameters) (parametersLength (formOf (parametersAt parameters))) h, answer)
+  write-other a h answer = rw (ne-eqb (length parameters) (parametersLength (formOf (parametersFromBytes parameters))) h, answer)
 
-  pub write-made : (v : Parameters) (x : WriteResult) (a : ℕ) (b : List ℕ) → length parameters ≡ parametersLength (formOf (parametersAt parameters)) → v ≡ parametersAt parameters → x ≡ writeOf v image input (length buffer) → b ≡ writtenBuffer v image input buffer
-      → a ≡ writtenAnswer x → answered a b ≡ hostWrite parameters image input buffer
+  pub write-made : (v : Parameters) (x : WriteResult) (a : ℕ) (b : List ℕ) → length parameters ≡ parametersLength (formOf (parametersFromBytes parameters)) → v ≡ parametersFromBytes parameters → x ≡ writeOf v image input (length buffer) → b ≡ writtenBuffer v image input buffer
+      → a ≡ writtenAnswer x → bufferOutcome a b ≡ hostWrite parameters image input buffer
   unfolding hostWrite if_then_else_
   write-made v x a b whole decoded written left answer =
-      rw (eq-eqb (length parameters) (parametersLength (formOf (parametersAt parameters))) whole, answer ∙ ap writtenAnswer written, left, decoded)
+      rw (eq-eqb (length parameters) (parametersLength (formOf (parametersFromBytes parameters))) whole, answer ∙ ap writtenAnswer written, left, decoded)

@@ -14,7 +14,7 @@ use Rattle.supervisor.specs.declared.reported.Report.{Report}
 use Rattle.supervisor.specs.declared.table.Table.{Table}
 use Rattle.slices.specs.Numbers.{u16Bytes}
 use Rattle.slices.specs.Slices.{concat}
-use Rattle.host.specs.TableEncoding.{tableAt, tableBytes, tableLength}
+use Rattle.host.specs.TableEncoding.{tableFromBytes, tableBytes, tableLength}
 
 -- an answer: the refusal, 0 for none, and how many bytes were handed over, 0 where none are
 abbrev pub answerOf : ℕ → ℕ → ℕ
@@ -22,7 +22,7 @@ answerOf refusal count = refusal * 65536 + count
 
 -- the table and the memory that a host lends
 abbrev pub lentSystem : List ℕ → List ℕ → System
-lentSystem table memory = system (tableAt table) memory
+lentSystem table memory = system (tableFromBytes table) memory
 
 -- the table's bytes after a call: those of the table that it came to, or left as they are by a refusal
 unfoldable pub bytesAfter : ℕ → Table → List ℕ → List ℕ
@@ -31,19 +31,19 @@ bytesAfter refusal t bytes = if eqb refusal 0 then tableBytes t else bytes
 -- ---- a new table
 
 -- what a call answers, and what its buffer holds afterwards
-pub record Answered : Type 0 where
+pub record BufferOutcome : Type 0 where
   pub answer : ℕ
   pub buffer : List ℕ
 
-abbrev pub answered : ℕ → List ℕ → Answered
-answered answer buffer = record { answer = answer; buffer = buffer }
+abbrev pub bufferOutcome : ℕ → List ℕ → BufferOutcome
+bufferOutcome answer buffer = record { answer = answer; buffer = buffer }
 
 -- a refusal leaves the buffer: a host is given no all-zero table
-unfoldable pub hostNew : ℕ → List ℕ → Answered
+unfoldable pub hostNew : ℕ → List ℕ → BufferOutcome
 hostNew size table =
     if eqb (length table) tableLength
-    then answered (answerOf (newRefusal size) 0) (bytesAfter (newRefusal size) (newTable size) table)
-    else answered (answerOf 1 0) table
+    then bufferOutcome (answerOf (newRefusal size) 0) (bytesAfter (newRefusal size) (newTable size) table)
+    else bufferOutcome (answerOf 1 0) table
 
 -- ---- calls with a table and a memory
 
@@ -52,6 +52,7 @@ pub record Host : Type 0 where
   pub table : List ℕ
   pub memory : List ℕ
 
+-- such a host of its parts
 abbrev pub host : List ℕ → List ℕ → Host
 host table memory = record { table = table; memory = memory }
 
@@ -67,18 +68,19 @@ hostAfterCall c h =
     else h
 
 -- what a call answers that hands over so many bytes, and what table and memory hold afterwards
-pub record Hosted : Type 0 where
+pub record HostOutcome : Type 0 where
   pub answer : ℕ
-  pub left : Host
+  pub after : Host
 
-abbrev pub hosted : ℕ → List ℕ → List ℕ → Hosted
-hosted answer table memory = record { answer = answer; left = host table memory }
+abbrev pub hostOutcome : ℕ → List ℕ → List ℕ → HostOutcome
+hostOutcome answer table memory = record { answer = answer; after = host table memory }
 
-unfoldable pub hostOutcome : Call → ℕ → Host → Hosted
-hostOutcome c count h =
+-- the answer has the refusal and that count; what is left is `hostAfterCall`
+unfoldable pub hostOutcomeOf : Call → ℕ → Host → HostOutcome
+hostOutcomeOf c count h =
     record {
       answer = if eqb (length (h .table)) tableLength then answerOf (refusal c (systemOf h)) count else answerOf 1 0;
-      left = hostAfterCall c h;
+      after = hostAfterCall c h;
     }
 
 -- the lent buffer after a drain
@@ -91,20 +93,22 @@ hostDrained table memory k buffer = if eqb (length table) tableLength then drain
 unfoldable pub reportBytes : Report → List ℕ
 reportBytes r = concat ((r .status ∷ []) ∷ u16Bytes (r .counter) ∷ r .registers ∷ (r .psu ∷ r .psl ∷ []) ∷ [])
 
+-- how many bytes these are
 abbrev pub reportLength : ℕ
 reportLength = 12
 
+-- what refuses a report: the table's bytes, then the report itself, then a buffer that is too short
 unfoldable pub hostReportRefusal : List ℕ → ℕ → ℕ → ℕ
 hostReportRefusal table k room =
     refusalBy
     (not (eqb (length table) tableLength) gives 1
-    ∷ not (eqb (queryRefusal (report k) (tableAt table)) 0) gives queryRefusal (report k) (tableAt table)
+    ∷ not (eqb (queryRefusal (report k) (tableFromBytes table)) 0) gives queryRefusal (report k) (tableFromBytes table)
     ∷ ltb room reportLength gives 16
     ∷ [])
 
 -- the report at the buffer's front, the rest left
-unfoldable pub hostReport : List ℕ → ℕ → List ℕ → Answered
+unfoldable pub hostReport : List ℕ → ℕ → List ℕ → BufferOutcome
 hostReport table k buffer =
-    answered
+    bufferOutcome
     (answerOf (hostReportRefusal table k (length buffer)) 0)
-    (if eqb (hostReportRefusal table k (length buffer)) 0 then reportBytes (reportOf (tableAt table) k) ++ drop reportLength buffer else buffer)
+    (if eqb (hostReportRefusal table k (length buffer)) 0 then reportBytes (reportOf (tableFromBytes table) k) ++ drop reportLength buffer else buffer)

@@ -24,6 +24,7 @@ hostAfterEvent (call (run n)) h = hostAfterCall (run n) h
 hostAfterEvent (call (query q)) h = h
 hostAfterEvent (write i b) h = host (h .table) (set (h .memory) i b)
 
+-- and after a list of such events
 unfoldable pub hostAfterEvents : List Event → Host → Host
 hostAfterEvents [] h = h
 hostAfterEvents (e ∷ rest) h = hostAfterEvents rest (hostAfterEvent e h)
@@ -31,11 +32,11 @@ hostAfterEvents (e ∷ rest) h = hostAfterEvents rest (hostAfterEvent e h)
 -- Demand 3, of what a host holds and any list of what it does
 pub record HostIsolation (h : Host) (list : List Event) : Type 0 where
   -- after the list, the host's bytes hold the table and the memory that the events lead to
-  pub follows : systemOf (hostAfterEvents list h) ≡ afterEvents list (systemOf h)
+  pub holds : systemOf (hostAfterEvents list h) ≡ afterEvents list (systemOf h)
   -- the table still has its length
   pub whole : length (hostAfterEvents list h .table) ≡ tableLength
   -- and demand 3 holds of these events, all of it
-  pub demand : Isolation (systemOf h) list
+  pub isolation : Isolation (systemOf h) list
   -- its first part, in the host's bytes: a pattern that is left alone is exactly the lone machine after p times s steps
   pub machine :
       (k : ℕ) → k < 8 → isEmpty (slotOf (systemOf h) k) ≡ false → LeftAloneThroughout k list (systemOf h)

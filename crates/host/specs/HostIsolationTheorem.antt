@@ -22,34 +22,34 @@ use Rattle.supervisor.specs.declared.table.Slot.{Slot}
 use Rattle.supervisor.specs.declared.table.Table.{Table}
 use Rattle.host.specs.HostCalls.{bytesAfter, Host, systemOf, hostAfterCall}
 use Rattle.host.specs.HostIsolation.{hostAfterEvent, hostAfterEvents, HostIsolation}
-use Rattle.host.specs.TableEncoding.{tableAt, tableBytes, tableLength}
-use Rattle.encoding.specs.StateRoundTripLaws.{Shaped}
-use Rattle.host.specs.TableRoundTripLaws.{AllShaped, TableShaped, table-decoded, table-length, table-shaped}
+use Rattle.host.specs.TableEncoding.{tableFromBytes, tableBytes, tableLength}
+use Rattle.encoding.specs.StateRoundTripLaws.{StateShaped}
+use Rattle.host.specs.TableRoundTripLaws.{SlotsShaped, TableShaped, table-decoded, table-length, table-shaped}
 use Rattle.supervisor.specs.CallDefinitions.{change-definitions}
 
 -- ---- every call keeps the lengths that a table's bytes need
 
-shaped-at : (ss : List Slot) (k : ℕ) → AllShaped ss → k < length ss → Shaped (getD ss k noSlot .state)
+shaped-at : (ss : List Slot) (k : ℕ) → SlotsShaped ss → k < length ss → StateShaped (getD ss k noSlot .state)
 shaped-at [] k h q = absurd (omega arith)
 shaped-at (s ∷ ss) zero h q = h .0
 shaped-at (s ∷ ss) (suc k) h q = shaped-at ss k (h .1) (omega arith)
 
-shaped-set : (ss : List Slot) (k : ℕ) (s : Slot) → AllShaped ss → (k < length ss → Shaped (s .state)) → AllShaped (set ss k s)
+shaped-set : (ss : List Slot) (k : ℕ) (s : Slot) → SlotsShaped ss → (k < length ss → StateShaped (s .state)) → SlotsShaped (set ss k s)
 shaped-set [] k s h q = tt
 shaped-set (x ∷ xs) zero s h q = (q (omega arith), h .1)
 shaped-set (x ∷ xs) (suc k) s h q = (h .0, shaped-set xs k s (h .1) (λ z. q (omega arith)))
 
 module _ (t : Table) (h : TableShaped t) (k : ℕ) where
-  at-slot : k < length (t .slots) → Shaped (slotAt t k .state)
+  at-slot : k < length (t .slots) → StateShaped (slotAt t k .state)
   unfolding slotAt
   at-slot q = shaped-at (t .slots) k (h .all) q
 
-  with-shaped : (s : Slot) → (k < length (t .slots) → Shaped (s .state)) → TableShaped (withSlot t k s)
+  with-shaped : (s : Slot) → (k < length (t .slots) → StateShaped (s .state)) → TableShaped (withSlot t k s)
   unfolding withSlot
   with-shaped s q = record { eight = length-set (t .slots) k s ∙ h .eight; all = shaped-set (t .slots) k s (h .all) q }
 
 -- a machine that stepped
-after-quantum-shaped : (s : Slot) (memory : List ℕ) → Shaped (s .state) → Shaped (afterQuantum s memory .state)
+after-quantum-shaped : (s : Slot) (memory : List ℕ) → StateShaped (s .state) → StateShaped (afterQuantum s memory .state)
 unfolding machineIn
 after-quantum-shaped s memory h = times-shaped (s .partition .quantum) (machineIn s memory) h
 
@@ -67,7 +67,7 @@ unfolding times
 rounds-shaped zero x h = h
 rounds-shaped (suc n) x h = quanta-shaped 8 (times n (slotQuanta 8) x) (rounds-shaped n x h)
 
-patch-shaped : (c : Change) (s : Slot) → Shaped (s .state) → Shaped (patchOf c s .slot .state)
+patch-shaped : (c : Change) (s : Slot) → StateShaped (s .state) → StateShaped (patchOf c s .slot .state)
 unfolding change-definitions
 patch-shaped (load location file) s h = record { registers = refl; returns = refl }
 patch-shaped unload s h = record { registers = refl; returns = refl }
@@ -88,9 +88,9 @@ record HostHolds (h : Host) (y : System) : Type 0 where
   whole : length (h .table) ≡ tableLength
 
 -- by whether the call is accepted
-call-follows : (c : Call) (h : Host) → length (h .table) ≡ tableLength → HostHolds (hostAfterCall c h) (afterCall c (systemOf h))
+call-holds : (c : Call) (h : Host) → length (h .table) ≡ tableLength → HostHolds (hostAfterCall c h) (afterCall c (systemOf h))
 unfolding hostAfterCall bytesAfter afterCall if_then_else_
-call-follows c h whole = rw (eq-eqb (length (h .table)) tableLength whole) (go (eqb (refusal c (systemOf h)) 0))
+call-holds c h whole = rw (eq-eqb (length (h .table)) tableLength whole) (go (eqb (refusal c (systemOf h)) 0))
   where
     x : System
     x = systemOf h
@@ -112,32 +112,32 @@ query-leaves q x = go (eqb (refusal (query q) x) 0)
     go true = refl
     go false = refl
 
-event-follows : (e : Event) (h : Host) → length (h .table) ≡ tableLength → HostHolds (hostAfterEvent e h) (afterEvent e (systemOf h))
+event-holds : (e : Event) (h : Host) → length (h .table) ≡ tableLength → HostHolds (hostAfterEvent e h) (afterEvent e (systemOf h))
 unfolding hostAfterEvent afterEvent
-event-follows (call (change k c)) h whole = call-follows (change k c) h whole
-event-follows (call (run n)) h whole = call-follows (run n) h whole
-event-follows (call (query q)) h whole = record { same = sym (query-leaves q (systemOf h)); whole = whole }
-event-follows (write i b) h whole = record { same = refl; whole = whole }
+event-holds (call (change k c)) h whole = call-holds (change k c) h whole
+event-holds (call (run n)) h whole = call-holds (run n) h whole
+event-holds (call (query q)) h whole = record { same = sym (query-leaves q (systemOf h)); whole = whole }
+event-holds (write i b) h whole = record { same = refl; whole = whole }
 
 -- ---- the list
 
-all-follow : (list : List Event) (h : Host) → length (h .table) ≡ tableLength → HostHolds (hostAfterEvents list h) (afterEvents list (systemOf h))
+events-hold : (list : List Event) (h : Host) → length (h .table) ≡ tableLength → HostHolds (hostAfterEvents list h) (afterEvents list (systemOf h))
 unfolding hostAfterEvents afterEvents
-all-follow [] h whole = record { same = refl; whole = whole }
-all-follow (e ∷ rest) h whole =
-    let f = event-follows e h whole in
-    let r = all-follow rest (hostAfterEvent e h) (f .whole) in
+events-hold [] h whole = record { same = refl; whole = whole }
+events-hold (e ∷ rest) h whole =
+    let f = event-holds e h whole in
+    let r = events-hold rest (hostAfterEvent e h) (f .whole) in
     record { same = r .same ∙ ap (afterEvents rest) (f .same); whole = r .whole }
 
 -- Demand 3 for hosts.
-pub host-isolation : (h : Host) (list : List Event) → length (h .table) ≡ tableLength → tableSound (tableAt (h .table)) ≡ true
-    → length (h .memory) ≡ tableAt (h .table) .size → HostIsolation h list
+pub host-isolation : (h : Host) (list : List Event) → length (h .table) ≡ tableLength → tableSound (tableFromBytes (h .table)) ≡ true
+    → length (h .memory) ≡ tableFromBytes (h .table) .size → HostIsolation h list
 host-isolation h list whole ok fits =
-    let f = all-follow list h whole in
+    let f = events-hold list h whole in
     let d = isolation (systemOf h) list ok fits in
     record {
-      follows = f .same;
+      holds = f .same;
       whole = f .whole;
-      demand = d;
+      isolation = d;
       machine = λ k q m l. ap (λ (y : System). machineIn (slotOf y k) (y .memory)) (f .same) ∙ d .machine k q m l;
     }

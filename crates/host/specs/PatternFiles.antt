@@ -6,23 +6,23 @@ use lib.Dec.{eqb, ltb}
 use lib.ListN.{length, drop}
 use Rattle.common.specs.Choice.{if_then_else_}
 use Rattle.pattern.specs.Reader.{readOf, codeOf, inputOf, codeOffset, inputOffset}
-use Rattle.pattern.specs.Parameters.{formOf, parametersLength, parametersBytes, parametersAt}
+use Rattle.pattern.specs.Parameters.{formOf, parametersLength, parametersBytes, parametersFromBytes}
 use Rattle.pattern.specs.Writer.{writeOf, writtenBuffer}
 use Rattle.pattern.specs.declared.reader.ReadResult.{ReadResult}
 use Rattle.pattern.specs.declared.reader.ReadResult.the-variants.{Accepted, Refused}
 use Rattle.pattern.specs.declared.writer.WriteResult.{WriteResult}
 use Rattle.pattern.specs.declared.writer.WriteResult.the-variants as written
-use Rattle.host.specs.HostCalls.{answerOf, Answered, answered}
+use Rattle.host.specs.HostCalls.{answerOf, BufferOutcome, bufferOutcome}
 
 -- ---- reading
 
 -- the reader's number; then 16 for a buffer that is shorter than the body of `PB`; else that body at the buffer's front, the rest left
-unfoldable pub hostRead : ReadResult → List ℕ → Answered
-hostRead (Refused n) buffer = answered (answerOf n 0) buffer
-hostRead (Accepted v) buffer =
-    if ltb (length buffer) (parametersLength (formOf v))
-    then answered (answerOf 16 0) buffer
-    else answered (answerOf 0 0) (parametersBytes v ++ drop (parametersLength (formOf v)) buffer)
+unfoldable pub hostRead : ReadResult → List ℕ → BufferOutcome
+hostRead (Refused n) buffer = bufferOutcome (answerOf n 0) buffer
+hostRead (Accepted p) buffer =
+    if ltb (length buffer) (parametersLength (formOf p))
+    then bufferOutcome (answerOf 16 0) buffer
+    else bufferOutcome (answerOf 0 0) (parametersBytes p ++ drop (parametersLength (formOf p)) buffer)
 
 -- a stretch of a file in one number: where it starts, and its length
 abbrev pub stretchOf : ℕ → ℕ → ℕ
@@ -30,7 +30,7 @@ stretchOf offset n = offset * 65536 + n
 
 -- an empty stretch if the file is refused
 abbrev pub ifRead : ReadResult → ℕ → ℕ
-ifRead (Accepted v) stretch = stretch
+ifRead (Accepted p) stretch = stretch
 ifRead (Refused n) stretch = 0
 
 -- where the bodies of `PC` and `PI` lie
@@ -48,8 +48,8 @@ writtenAnswer (written.Length n) = answerOf 0 n
 writtenAnswer (written.Refused n) = answerOf n 0
 
 -- the parameters come as the body of `PB`; one of another length is out of range
-unfoldable pub hostWrite : List ℕ → List ℕ → List ℕ → List ℕ → Answered
+unfoldable pub hostWrite : List ℕ → List ℕ → List ℕ → List ℕ → BufferOutcome
 hostWrite parameters image input buffer =
-    if eqb (length parameters) (parametersLength (formOf (parametersAt parameters)))
-    then answered (writtenAnswer (writeOf (parametersAt parameters) image input (length buffer))) (writtenBuffer (parametersAt parameters) image input buffer)
-    else answered (answerOf 9 0) buffer
+    if eqb (length parameters) (parametersLength (formOf (parametersFromBytes parameters)))
+    then bufferOutcome (writtenAnswer (writeOf (parametersFromBytes parameters) image input (length buffer))) (writtenBuffer (parametersFromBytes parameters) image input buffer)
+    else bufferOutcome (answerOf 9 0) buffer

@@ -16,7 +16,7 @@ use Rattle.slices.specs.Slices.{partOf, concat, tabulate}
 use Rattle.supervisor.specs.declared.table.Partition.{Partition}
 use Rattle.supervisor.specs.declared.table.Slot.{Slot}
 use Rattle.supervisor.specs.declared.table.Table.{Table}
-use Rattle.encoding.specs.StateEncoding.{stateLength, stateBytes, stateAt}
+use Rattle.encoding.specs.StateEncoding.{stateLength, stateBytes, stateFromBytes}
 
 -- ---- how many bytes a partition, a slot and a table have, and where the slots stand
 
@@ -53,16 +53,16 @@ tableBytes t = u32Bytes (t .size) ++ concat (map slotBytes (t .slots))
 
 -- ---- from bytes to the table that they hold
 
-unfoldable pub partitionAt : List ℕ → Partition
-partitionAt bytes =
+unfoldable pub partitionFromBytes : List ℕ → Partition
+partitionFromBytes bytes =
     record {
       base = record { 0 = u32At bytes 0 };
       layout = record { window = u16At bytes 4; input = u16At bytes 6; output = u16At bytes 8 };
       quantum = getD bytes 10 0;
     }
 
-unfoldable pub slotFrom : List ℕ → Slot
-slotFrom bytes = record { partition = partitionAt bytes; state = stateAt (drop partitionLength bytes) }
+unfoldable pub slotFromBytes : List ℕ → Slot
+slotFromBytes bytes = record { partition = partitionFromBytes bytes; state = stateFromBytes (drop partitionLength bytes) }
 
-unfoldable pub tableAt : List ℕ → Table
-tableAt bytes = record { size = u32At bytes 0; slots = tabulate 8 (λ k. slotFrom (partOf bytes (slotsOffset + slotLength * k) slotLength)) }
+unfoldable pub tableFromBytes : List ℕ → Table
+tableFromBytes bytes = record { size = u32At bytes 0; slots = tabulate 8 (λ k. slotFromBytes (partOf bytes (slotsOffset + slotLength * k) slotLength)) }

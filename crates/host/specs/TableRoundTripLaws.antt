@@ -14,18 +14,18 @@ use Rattle.slices.specs.Slices.{Bytes, partOf, concat, tabulate}
 use Rattle.supervisor.specs.declared.table.Partition.{Partition}
 use Rattle.supervisor.specs.declared.table.Slot.{Slot}
 use Rattle.supervisor.specs.declared.table.Table.{Table}
-use Rattle.encoding.specs.StateEncoding.{stateLength, stateBytes, stateAt}
-use Rattle.encoding.specs.StateRoundTripLaws.{Shaped, state-shaped, state-length, state-decoded, state-encoded}
-use Rattle.host.specs.TableEncoding.{partitionLength, slotLength, slotsOffset, tableLength, partitionBytes, slotBytes, tableBytes, partitionAt, slotFrom, tableAt}
+use Rattle.encoding.specs.StateEncoding.{stateLength, stateBytes, stateFromBytes}
+use Rattle.encoding.specs.StateRoundTripLaws.{StateShaped, state-shaped, state-length, state-decoded, state-encoded}
+use Rattle.host.specs.TableEncoding.{partitionLength, slotLength, slotsOffset, tableLength, partitionBytes, slotBytes, tableBytes, partitionFromBytes, slotFromBytes, tableFromBytes}
 
 -- a table has eight slots, and each has a state of seven registers and eight return addresses: in the code by their types
-abbrev pub AllShaped : List Slot → Type 0
-AllShaped [] = Unit {0}
-AllShaped (s ∷ ss) = Shaped (s .state) × AllShaped ss
+abbrev pub SlotsShaped : List Slot → Type 0
+SlotsShaped [] = Unit {0}
+SlotsShaped (s ∷ ss) = StateShaped (s .state) × SlotsShaped ss
 
 pub record TableShaped (t : Table) : Type 0 where
   pub eight : length (t .slots) ≡ 8
-  pub all : AllShaped (t .slots)
+  pub all : SlotsShaped (t .slots)
 
 -- ---- a slot
 
@@ -33,13 +33,13 @@ pub partition-length : (p : Partition) → length (partitionBytes p) ≡ partiti
 unfolding partitionBytes
 partition-length p = refl
 
-pub slot-length : (s : Slot) → Shaped (s .state) → length (slotBytes s) ≡ slotLength
+pub slot-length : (s : Slot) → StateShaped (s .state) → length (slotBytes s) ≡ slotLength
 unfolding slotBytes
 slot-length s h = length-append (partitionBytes (s .partition)) (stateBytes (s .state)) ∙ (omega (arith, partition-length (s .partition), state-length (s .state) h))
 
 -- a partition's bytes hold it, whatever follows them
-partition-decoded : (p : Partition) (rest : List ℕ) → partitionAt (partitionBytes p ++ rest) ≡ p
-unfolding partitionAt partitionBytes
+partition-decoded : (p : Partition) (rest : List ℕ) → partitionFromBytes (partitionBytes p ++ rest) ≡ p
+unfolding partitionFromBytes partitionBytes
 partition-decoded p rest =
     λ j.
     record {
@@ -53,17 +53,17 @@ partition-decoded p rest =
       quantum = p .quantum;
     }
 
-slot-decoded : (s : Slot) → Shaped (s .state) → slotFrom (slotBytes s) ≡ s
-unfolding slotFrom slotBytes
+slot-decoded : (s : Slot) → StateShaped (s .state) → slotFromBytes (slotBytes s) ≡ s
+unfolding slotFromBytes slotBytes
 slot-decoded s h =
-    let p : partitionAt (partitionBytes (s .partition) ++ stateBytes (s .state)) ≡ s .partition = partition-decoded (s .partition) (stateBytes (s .state)) in
-    let z : stateAt (drop partitionLength (partitionBytes (s .partition) ++ stateBytes (s .state))) ≡ s .state =
-    ap stateAt (drop-at (partitionBytes (s .partition)) (stateBytes (s .state)) partitionLength (partition-length (s .partition))) ∙ state-decoded (s .state) h
+    let p : partitionFromBytes (partitionBytes (s .partition) ++ stateBytes (s .state)) ≡ s .partition = partition-decoded (s .partition) (stateBytes (s .state)) in
+    let z : stateFromBytes (drop partitionLength (partitionBytes (s .partition) ++ stateBytes (s .state))) ≡ s .state =
+    ap stateFromBytes (drop-at (partitionBytes (s .partition)) (stateBytes (s .state)) partitionLength (partition-length (s .partition))) ∙ state-decoded (s .state) h
     in
     λ j. record { partition = p j; state = z j }
 
-partition-encoded : (l : List ℕ) → partitionLength ≤ length l → Bytes l → partitionBytes (partitionAt l) ≡ take partitionLength l
-unfolding partitionBytes partitionAt
+partition-encoded : (l : List ℕ) → partitionLength ≤ length l → Bytes l → partitionBytes (partitionFromBytes l) ≡ take partitionLength l
+unfolding partitionBytes partitionFromBytes
 partition-encoded l h small =
     (λ j.
     concat (
@@ -76,44 +76,44 @@ partition-encoded l h small =
     ))
     ∙ parts-concat l 0 (4 ∷ 2 ∷ 2 ∷ 2 ∷ 1 ∷ [])
 
-slot-encoded : (l : List ℕ) → length l ≡ slotLength → Bytes l → slotBytes (slotFrom l) ≡ l
-unfolding slotBytes slotFrom
+slot-encoded : (l : List ℕ) → length l ≡ slotLength → Bytes l → slotBytes (slotFromBytes l) ≡ l
+unfolding slotBytes slotFromBytes
 slot-encoded l h small =
     let r : length (drop partitionLength l) ≡ stateLength = length-drop partitionLength l ∙ (omega arith) in
-    let p : partitionBytes (partitionAt l) ≡ take partitionLength l = partition-encoded l (omega arith) small in
-    let z : stateBytes (stateAt (drop partitionLength l)) ≡ drop partitionLength l = state-encoded (drop partitionLength l) r (bytes-drop partitionLength l small) in
+    let p : partitionBytes (partitionFromBytes l) ≡ take partitionLength l = partition-encoded l (omega arith) small in
+    let z : stateBytes (stateFromBytes (drop partitionLength l)) ≡ drop partitionLength l = state-encoded (drop partitionLength l) r (bytes-drop partitionLength l small) in
     (λ j. p j ++ z j) ∙ take-append-drop partitionLength l
 
 -- ---- slots, one behind the other
 
 -- the n slots from the front of l on
 abbrev slotsIn : ℕ → List ℕ → List Slot
-slotsIn n l = tabulate n (λ k. slotFrom (partOf l (slotLength * k) slotLength))
+slotsIn n l = tabulate n (λ k. slotFromBytes (partOf l (slotLength * k) slotLength))
 
 -- slots behind so many bytes are those of the rest
-slots-behind : (n at : ℕ) (l : List ℕ) → tabulate n (λ k. slotFrom (partOf l (at + slotLength * k) slotLength)) ≡ slotsIn n (drop at l)
-slots-behind n at l = λ j. tabulate n (λ k. slotFrom (take slotLength (sym (drop-drop (slotLength * k) at l) j)))
+slots-behind : (n at : ℕ) (l : List ℕ) → tabulate n (λ k. slotFromBytes (partOf l (at + slotLength * k) slotLength)) ≡ slotsIn n (drop at l)
+slots-behind n at l = λ j. tabulate n (λ k. slotFromBytes (take slotLength (sym (drop-drop (slotLength * k) at l) j)))
 
 -- the first slot, and the others
-slots-more : (n : ℕ) (l : List ℕ) → slotsIn (suc n) l ≡ slotFrom (take slotLength l) ∷ slotsIn n (drop slotLength l)
+slots-more : (n : ℕ) (l : List ℕ) → slotsIn (suc n) l ≡ slotFromBytes (take slotLength l) ∷ slotsIn n (drop slotLength l)
 slots-more n l =
     let place : (k : ℕ) → slotLength * suc k ≡ slotLength + slotLength * k = λ k. omega arith in
-    let others : tabulate n (λ k. slotFrom (partOf l (slotLength * suc k) slotLength)) ≡ slotsIn n (drop slotLength l) =
-    (λ j. tabulate n (λ k. slotFrom (partOf l (place k j) slotLength))) ∙ slots-behind n slotLength l
+    let others : tabulate n (λ k. slotFromBytes (partOf l (slotLength * suc k) slotLength)) ≡ slotsIn n (drop slotLength l) =
+    (λ j. tabulate n (λ k. slotFromBytes (partOf l (place k j) slotLength))) ∙ slots-behind n slotLength l
     in
-    ap (λ (ss : List Slot). slotFrom (take slotLength l) ∷ ss) others
+    ap (λ (ss : List Slot). slotFromBytes (take slotLength l) ∷ ss) others
 
-slots-length : (ss : List Slot) → AllShaped ss → length (concat (map slotBytes ss)) ≡ slotLength * length ss
+slots-length : (ss : List Slot) → SlotsShaped ss → length (concat (map slotBytes ss)) ≡ slotLength * length ss
 slots-length [] h = refl
 slots-length (s ∷ ss) h =
     length-append (slotBytes s) (concat (map slotBytes ss)) ∙ (omega (arith, slot-length s (h .0), slots-length ss (h .1)))
 
-slots-decoded : (ss : List Slot) → AllShaped ss → slotsIn (length ss) (concat (map slotBytes ss)) ≡ ss
+slots-decoded : (ss : List Slot) → SlotsShaped ss → slotsIn (length ss) (concat (map slotBytes ss)) ≡ ss
 slots-decoded [] h = refl
 slots-decoded (s ∷ ss) h =
     let n : length (slotBytes s) ≡ slotLength = slot-length s (h .0) in
-    let first : slotFrom (take slotLength (slotBytes s ++ concat (map slotBytes ss))) ≡ s =
-    ap slotFrom (take-at (slotBytes s) (concat (map slotBytes ss)) slotLength n) ∙ slot-decoded s (h .0)
+    let first : slotFromBytes (take slotLength (slotBytes s ++ concat (map slotBytes ss))) ≡ s =
+    ap slotFromBytes (take-at (slotBytes s) (concat (map slotBytes ss)) slotLength n) ∙ slot-decoded s (h .0)
     in
     let others : slotsIn (length ss) (drop slotLength (slotBytes s ++ concat (map slotBytes ss))) ≡ ss =
     ap (slotsIn (length ss)) (drop-at (slotBytes s) (concat (map slotBytes ss)) slotLength n) ∙ slots-decoded ss (h .1)
@@ -124,7 +124,7 @@ slots-encoded : (n : ℕ) (l : List ℕ) → length l ≡ slotLength * n → Byt
 slots-encoded zero [] h small = refl
 slots-encoded zero (x ∷ xs) h small = absurd (omega arith)
 slots-encoded (suc n) l h small =
-    let first : slotBytes (slotFrom (take slotLength l)) ≡ take slotLength l =
+    let first : slotBytes (slotFromBytes (take slotLength l)) ≡ take slotLength l =
     slot-encoded (take slotLength l) (length-take-le slotLength l (omega arith)) (bytes-take slotLength l small)
     in
     let others : concat (map slotBytes (slotsIn n (drop slotLength l))) ≡ drop slotLength l =
@@ -132,8 +132,8 @@ slots-encoded (suc n) l h small =
     in
     ap (λ (ss : List Slot). concat (map slotBytes ss)) (slots-more n l) ∙ (λ j. first j ++ others j) ∙ take-append-drop slotLength l
 
-slots-shaped : (n : ℕ) (f : ℕ → List ℕ) → AllShaped (tabulate n (λ k. slotFrom (f k)))
-unfolding slotFrom
+slots-shaped : (n : ℕ) (f : ℕ → List ℕ) → SlotsShaped (tabulate n (λ k. slotFromBytes (f k)))
+unfolding slotFromBytes
 slots-shaped zero f = tt
 slots-shaped (suc n) f = (state-shaped (drop partitionLength (f 0)), slots-shaped n (λ k. f (suc k)))
 
@@ -145,11 +145,11 @@ table-length t h =
     length-append (u32Bytes (t .size)) (concat (map slotBytes (t .slots))) ∙ (omega (arith, slots-length (t .slots) (h .all), h .eight))
 
 -- a table's bytes hold that table
-pub table-decoded : (t : Table) → TableShaped t → tableAt (tableBytes t) ≡ t
-unfolding tableAt tableBytes
+pub table-decoded : (t : Table) → TableShaped t → tableFromBytes (tableBytes t) ≡ t
+unfolding tableFromBytes tableBytes
 table-decoded t h =
     let l : List ℕ = concat (map slotBytes (t .slots)) in
-    let ss : tabulate 8 (λ k. slotFrom (partOf (u32Bytes (t .size) ++ l) (slotsOffset + slotLength * k) slotLength)) ≡ t .slots =
+    let ss : tabulate 8 (λ k. slotFromBytes (partOf (u32Bytes (t .size) ++ l) (slotsOffset + slotLength * k) slotLength)) ≡ t .slots =
     slots-behind 8 slotsOffset (u32Bytes (t .size) ++ l)
     ∙ ap (λ (k : ℕ). slotsIn k l) (sym (h .eight))
     ∙ slots-decoded (t .slots) (h .all)
@@ -157,24 +157,24 @@ table-decoded t h =
     λ j. record { size = u32-back (t .size) [] j; slots = ss j }
 
 -- so many bytes are those of the table that they hold
-pub table-encoded : (l : List ℕ) → length l ≡ tableLength → Bytes l → tableBytes (tableAt l) ≡ l
-unfolding tableAt tableBytes
+pub table-encoded : (l : List ℕ) → length l ≡ tableLength → Bytes l → tableBytes (tableFromBytes l) ≡ l
+unfolding tableFromBytes tableBytes
 table-encoded l h small =
     let first : u32Bytes (u32At l 0) ≡ take slotsOffset l = u32-again l small 0 (omega arith) in
-    let others : concat (map slotBytes (tabulate 8 (λ k. slotFrom (partOf l (slotsOffset + slotLength * k) slotLength)))) ≡ drop slotsOffset l =
+    let others : concat (map slotBytes (tabulate 8 (λ k. slotFromBytes (partOf l (slotsOffset + slotLength * k) slotLength)))) ≡ drop slotsOffset l =
     ap (λ (ss : List Slot). concat (map slotBytes ss)) (slots-behind 8 slotsOffset l)
     ∙ slots-encoded 8 (drop slotsOffset l) (length-drop slotsOffset l ∙ (omega arith)) (bytes-drop slotsOffset l small)
     in
     (λ j. first j ++ others j) ∙ take-append-drop slotsOffset l
 
 -- what bytes hold has the lengths of its type
-pub table-shaped : (l : List ℕ) → TableShaped (tableAt l)
-unfolding tableAt
+pub table-shaped : (l : List ℕ) → TableShaped (tableFromBytes l)
+unfolding tableFromBytes
 table-shaped l = record { eight = refl; all = slots-shaped 8 (λ k. partOf l (slotsOffset + slotLength * k) slotLength) }
 
 -- two tables of the same bytes are one, and so are two buffers of the same table
 pub table-once : (t u : Table) → TableShaped t → TableShaped u → tableBytes t ≡ tableBytes u → t ≡ u
-table-once t u h k e = sym (table-decoded t h) ∙ ap tableAt e ∙ table-decoded u k
+table-once t u h k e = sym (table-decoded t h) ∙ ap tableFromBytes e ∙ table-decoded u k
 
-pub bytes-once : (l m : List ℕ) → length l ≡ tableLength → length m ≡ tableLength → Bytes l → Bytes m → tableAt l ≡ tableAt m → l ≡ m
+pub bytes-once : (l m : List ℕ) → length l ≡ tableLength → length m ≡ tableLength → Bytes l → Bytes m → tableFromBytes l ≡ tableFromBytes m → l ≡ m
 bytes-once l m h k small few e = sym (table-encoded l h small) ∙ ap tableBytes e ∙ table-encoded m k few

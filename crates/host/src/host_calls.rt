@@ -5,7 +5,7 @@ ghost use lib.ListN.{length};
 ghost use Rattle.supervisor.specs.Calls as calls;
 ghost use Rattle.supervisor.specs.Calls.{drainedCount};
 ghost use Rattle.host.specs.TableEncoding.{tableLength};
-ghost use Rattle.host.specs.HostCalls.{answerOf, answered, bytesAfter, host, hosted, hostDrained, hostNew, hostOutcome, hostReport, lentSystem, reportBytes};
+ghost use Rattle.host.specs.HostCalls.{answerOf, bufferOutcome, bytesAfter, host, hostOutcome, hostDrained, hostNew, hostOutcomeOf, hostReport, lentSystem, reportBytes};
 use crate::table_encoding::TABLE_LENGTH;
 use crate::table_encoding::decode_table;
 use crate::table_encoding::encode_table;
@@ -36,7 +36,7 @@ fn store_accepted(bytes: &mut [u8], refusal: u8, table: Table)
 // A new table for a memory of that length. A refusal leaves the buffer.
 #[no_mangle]
 pub extern "C" fn pf_new(table: &mut [u8], length: usize) -> u32
-    ensures { λ r. ⌜ answered r (now (table .exit)) ≡ hostNew length (now (table .entry)) ⌝ }
+    ensures { λ r. ⌜ bufferOutcome r (now (table .exit)) ≡ hostNew length (now (table .entry)) ⌝ }
 {
     if table.len() != TABLE_LENGTH {
         return answer(1, 0);
@@ -49,7 +49,7 @@ pub extern "C" fn pf_new(table: &mut [u8], length: usize) -> u32
 }
 
 // The place of that number. Every place from the longest memory's length on is refused alike, so one stands for all of them.
-fn location_at(location: usize) -> Location
+fn clamp_location(location: usize) -> Location
     ensures { λ l. ⌜ l .0 ≡ min location 65536 ⌝ }
 {
     if location < Table::MAX_MEMORY {
@@ -59,6 +59,7 @@ fn location_at(location: usize) -> Location
     }
 }
 
+// Loads a pattern file into an empty slot.
 #[no_mangle]
 pub extern "C" fn pf_load(
     table: &mut [u8],
@@ -67,22 +68,23 @@ pub extern "C" fn pf_load(
     location: usize,
     file: &[u8],
 ) -> u32
-    ensures { λ r. ⌜ hosted r (now (table .exit)) (now (memory .exit)) ≡ hostOutcome (calls.change slot (calls.load (record { 0 = location }) (now (file .entry)))) 0 (host (now (table .entry)) (now (memory .entry))) ⌝ }
+    ensures { λ r. ⌜ hostOutcome r (now (table .exit)) (now (memory .exit)) ≡ hostOutcomeOf (calls.change slot (calls.load (record { 0 = location }) (now (file .entry)))) 0 (host (now (table .entry)) (now (memory .entry))) ⌝ }
 {
     if table.len() != TABLE_LENGTH {
         return answer(1, 0);
     }
     let before = decode_table(&table[..]);
-    let done = supervisor::load(before, memory, slot, location_at(location), file);
+    let done = supervisor::load(before, memory, slot, clamp_location(location), file);
     let refusal = done.refusal;
     let after = done.table;
     store_accepted(table, refusal, after);
     answer(refusal, 0)
 }
 
+// Empties a slot, and sets its partition's bytes to zero.
 #[no_mangle]
 pub extern "C" fn pf_unload(table: &mut [u8], memory: &mut [u8], slot: usize) -> u32
-    ensures { λ r. ⌜ hosted r (now (table .exit)) (now (memory .exit)) ≡ hostOutcome (calls.change slot calls.unload) 0 (host (now (table .entry)) (now (memory .entry))) ⌝ }
+    ensures { λ r. ⌜ hostOutcome r (now (table .exit)) (now (memory .exit)) ≡ hostOutcomeOf (calls.change slot calls.unload) 0 (host (now (table .entry)) (now (memory .entry))) ⌝ }
 {
     if table.len() != TABLE_LENGTH {
         return answer(1, 0);
@@ -95,9 +97,10 @@ pub extern "C" fn pf_unload(table: &mut [u8], memory: &mut [u8], slot: usize) ->
     answer(refusal, 0)
 }
 
+// Gives a pattern new input.
 #[no_mangle]
 pub extern "C" fn pf_feed(table: &mut [u8], memory: &mut [u8], slot: usize, input: &[u8]) -> u32
-    ensures { λ r. ⌜ hosted r (now (table .exit)) (now (memory .exit)) ≡ hostOutcome (calls.change slot (calls.feed (now (input .entry)))) 0 (host (now (table .entry)) (now (memory .entry))) ⌝ }
+    ensures { λ r. ⌜ hostOutcome r (now (table .exit)) (now (memory .exit)) ≡ hostOutcomeOf (calls.change slot (calls.feed (now (input .entry)))) 0 (host (now (table .entry)) (now (memory .entry))) ⌝ }
 {
     if table.len() != TABLE_LENGTH {
         return answer(1, 0);
@@ -110,10 +113,10 @@ pub extern "C" fn pf_feed(table: &mut [u8], memory: &mut [u8], slot: usize, inpu
     answer(refusal, 0)
 }
 
-// The count is how many bytes were drained to the buffer's front.
+// Takes what a pattern has put out to the buffer's front. The count is how many bytes.
 #[no_mangle]
 pub extern "C" fn pf_drain(table: &mut [u8], memory: &[u8], slot: usize, buffer: &mut [u8]) -> u32
-    ensures { λ r. ⌜ hosted r (now (table .exit)) (now (memory .entry)) ≡ hostOutcome (calls.change slot (calls.drain (length (now (buffer .entry))))) (drainedCount (lentSystem (now (table .entry)) (now (memory .entry))) slot (length (now (buffer .entry)))) (host (now (table .entry)) (now (memory .entry))) ⌝ }
+    ensures { λ r. ⌜ hostOutcome r (now (table .exit)) (now (memory .entry)) ≡ hostOutcomeOf (calls.change slot (calls.drain (length (now (buffer .entry))))) (drainedCount (lentSystem (now (table .entry)) (now (memory .entry))) slot (length (now (buffer .entry)))) (host (now (table .entry)) (now (memory .entry))) ⌝ }
     ensures { λ _. ⌜ now (buffer .exit) ≡ hostDrained (now (table .entry)) (now (memory .entry)) slot (now (buffer .entry)) ⌝ }
 {
     if table.len() != TABLE_LENGTH {
@@ -127,9 +130,10 @@ pub extern "C" fn pf_drain(table: &mut [u8], memory: &[u8], slot: usize, buffer:
     answer(refusal, done.count as u16)
 }
 
+// Makes so many rounds.
 #[no_mangle]
 pub extern "C" fn pf_run(table: &mut [u8], memory: &mut [u8], rounds: u16) -> u32
-    ensures { λ r. ⌜ hosted r (now (table .exit)) (now (memory .exit)) ≡ hostOutcome (calls.run rounds) 0 (host (now (table .entry)) (now (memory .entry))) ⌝ }
+    ensures { λ r. ⌜ hostOutcome r (now (table .exit)) (now (memory .exit)) ≡ hostOutcomeOf (calls.run rounds) 0 (host (now (table .entry)) (now (memory .entry))) ⌝ }
 {
     if table.len() != TABLE_LENGTH {
         return answer(1, 0);
@@ -165,7 +169,7 @@ fn report_bytes(r: Report) -> [u8; REPORT_LENGTH]
 // The report to the buffer's front.
 #[no_mangle]
 pub extern "C" fn pf_report(table: &[u8], slot: usize, report: &mut [u8]) -> u32
-    ensures { λ r. ⌜ answered r (now (report .exit)) ≡ hostReport (now (table .entry)) slot (now (report .entry)) ⌝ }
+    ensures { λ r. ⌜ bufferOutcome r (now (report .exit)) ≡ hostReport (now (table .entry)) slot (now (report .entry)) ⌝ }
 {
     if table.len() != TABLE_LENGTH {
         return answer(1, 0);

@@ -3,7 +3,7 @@ ghost use mathlib.Core.Path.{_≡_};
 ghost use Prim.Native.Nat.{_+_, _≤_};
 ghost use lib.ListN.{length};
 ghost use Rattle.slices.specs.Slices.{copied, partOf};
-ghost use Rattle.host.specs.TableEncoding.{partitionAt, partitionBytes, partitionLength, slotBytes, slotFrom, slotLength, tableAt, tableBytes, tableLength};
+ghost use Rattle.host.specs.TableEncoding.{partitionFromBytes, partitionBytes, partitionLength, slotBytes, slotFromBytes, slotLength, tableFromBytes, tableBytes, tableLength};
 use common::Layout;
 use common::Location;
 use slices::byte;
@@ -29,7 +29,7 @@ const SLOTS_OFFSET: usize = 4;
 pub(crate) const TABLE_LENGTH: usize = SLOTS_OFFSET + Table::SLOTS * SLOT_LENGTH;
 
 fn decode_partition(bytes: &[u8]) -> Partition
-    ensures { λ p. ⌜ p ≡ partitionAt (now (bytes .entry)) ⌝ }
+    ensures { λ p. ⌜ p ≡ partitionFromBytes (now (bytes .entry)) ⌝ }
 {
     let base = Location(u32_at(bytes, 0));
     let layout = Layout {
@@ -47,16 +47,16 @@ fn decode_partition(bytes: &[u8]) -> Partition
 
 // The slot whose bytes start at a place.
 fn decode_slot(bytes: &[u8], at: usize) -> Slot
-    ensures { λ s. ⌜ s ≡ slotFrom (partOf (now (bytes .entry)) at slotLength) ⌝ }
+    ensures { λ s. ⌜ s ≡ slotFromBytes (partOf (now (bytes .entry)) at slotLength) ⌝ }
 {
     let own = slices::part(bytes, at, SLOT_LENGTH);
     let partition = decode_partition(own);
-    let state = encoding::decode(slices::rest(own, PARTITION_LENGTH));
+    let state = encoding::decode_state(slices::rest(own, PARTITION_LENGTH));
     Slot { partition, state }
 }
 
 pub(crate) fn decode_table(bytes: &[u8]) -> Table
-    ensures { λ t. ⌜ t ≡ tableAt (now (bytes .entry)) ⌝ }
+    ensures { λ t. ⌜ t ≡ tableFromBytes (now (bytes .entry)) ⌝ }
 {
     let size = u32_at(bytes, 0);
     let first = decode_slot(bytes, SLOTS_OFFSET);
@@ -92,7 +92,7 @@ fn put_slot(bytes: &mut [u8], at: usize, slot: Slot)
     let partition = slot.partition;
     let state = slot.state;
     put_partition(bytes, at, partition);
-    let own = encoding::encode(state);
+    let own = encoding::encode_state(state);
     copy(bytes, at + PARTITION_LENGTH, &own);
 }
 

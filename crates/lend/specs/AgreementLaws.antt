@@ -10,7 +10,7 @@ use lib.Dec.{eqb}
 use lib.ListN.{length}
 use lib.Seq.{set-getD}
 use Rattle.common.specs.TestLaws.{and-test, within-test}
-use Rattle.common.specs.Ranges.{within}
+use Rattle.common.specs.Ranges.{isWithin}
 use Rattle.slices.specs.SliceLaws.{copied-none}
 use Rattle.supervisor.specs.Calls.{change, drain, refusal, outcome, outcomeOf, drainedCount, drainedBuffer}
 use Rattle.supervisor.specs.System.{System, system}
@@ -25,8 +25,8 @@ use Rattle.supervisor.specs.CallDefinitions.{refusal-definitions, drain-definit
 -- an outcome over slot k of a table, its slot put back, is what a call of `drain` at k answers and leaves: the three equations of its
 -- contract
 pub record AsDrained (t : Table) (memory : List ℕ) (k : ℕ) (buffer : List ℕ) (o : LentOutcome) : Type 0 where
-  pub table : outcome (o .answer .taken .refusal) (withSlot t k (o .answer .slot)) memory ≡ outcomeOf (change k (drain (length buffer))) (system t memory)
-  pub count : o .answer .taken .count ≡ drainedCount (system t memory) k (length buffer)
+  pub table : outcome (o .answer .drained .refusal) (withSlot t k (o .answer .slot)) memory ≡ outcomeOf (change k (drain (length buffer))) (system t memory)
+  pub count : o .answer .drained .count ≡ drainedCount (system t memory) k (length buffer)
   pub bytes : o .buffer ≡ drainedBuffer (system t memory) k buffer
 
 module _ (t : Table) (memory : List ℕ) (k : ℕ) (buffer : List ℕ) where
@@ -41,8 +41,8 @@ module _ (t : Table) (memory : List ℕ) (k : ℕ) (buffer : List ℕ) where
   unfolding refusal-definitions lentRefusal
   same-refusal h e q =
       let f = table-fact t h in
-      let own : (within (length memory) 65536 && slotSound (length memory) tableSlot) ≡ true =
-      ap (λ (n : ℕ). within n 65536 && slotSound n tableSlot) e ∙ and-test _ _ (within-test (t .size) 65536 (f .size)) (f .each k q) in
+      let own : (isWithin (length memory) 65536 && slotSound (length memory) tableSlot) ≡ true =
+      ap (λ (n : ℕ). isWithin n 65536 && slotSound n tableSlot) e ∙ and-test _ _ (within-test (t .size) 65536 (f .size)) (f .each k q) in
       rw (h, eq-eqb _ _ e, le-ltb 7 k (omega arith), own)
 
   -- at one number, both outcomes

@@ -9,37 +9,38 @@ use borrow.Author.Tests.{eq-eqb, eqb-true, le-leb}
 use lib.Dec.{eqb, leb}
 use lib.ListN.{length, drop}
 use Rattle.common.specs.Choice.{if_then_else_}
-use Rattle.common.specs.Refusals.{unless, refusalBy}
 use Rattle.common.specs.TestLaws.{and-true, or-left, or-right}
-use Rattle.common.specs.Ranges.{within}
+use Rattle.common.specs.Ranges.{isWithin}
 use Rattle.common.specs.Tests.{allAfter, allBelow}
 use Rattle.supervisor.specs.ChangeLaws.{empty-sound}
-use Rattle.supervisor.specs.Calls.{Outcome, change, drain, refusal, patchOf, afterAccepted, afterCall, outcome, outcomeOf, drainedCount, drainedBuffer}
+use Rattle.supervisor.specs.Calls.{Outcome, change, drain, refusal, outcome, outcomeOf, drainedCount, drainedBuffer}
 use Rattle.supervisor.specs.System.{System, system, patched}
 use Rattle.supervisor.specs.Table.{emptySlot, emptyTable, newRefusal, newTable, partitionEnd, slotAt, withSlot, slotWithState}
 use Rattle.supervisor.specs.Draining.{drainedState, drainPatch, writtenBytes}
-use Rattle.supervisor.specs.Sound.{slotSound, apart, clearOfOthers, tableSound}
+use Rattle.supervisor.specs.Sound.{slotSound, areApart, clearOfOthers, tableSound}
 use Rattle.supervisor.specs.declared.table.Partition.{Partition}
 use Rattle.supervisor.specs.declared.table.Slot.{Slot}
 use Rattle.supervisor.specs.declared.table.Table.{Table}
 use Rattle.lend.specs.Lent.{lentOutcome, lentRefusal, drainSlotOf}
 use Rattle.supervisor.specs.CallDefinitions.{refusal-definitions}
+use Rattle.common.specs.RefusalDefinitions.{condition-definitions}
+use Rattle.supervisor.specs.CallDefinitions.{drain-definitions}
 
 -- a table of seven empty slots behind this one
 abbrev pub aloneTable : ℕ → Slot → Table
 aloneTable size s = withSlot (emptyTable size) 0 s
 
 -- an empty partition meets none, on either side
-empty-apart-left : (p : Partition) → apart (emptySlot .partition) p ≡ true
-unfolding apart emptySlot
+empty-apart-left : (p : Partition) → areApart (emptySlot .partition) p ≡ true
+unfolding areApart emptySlot
 empty-apart-left p = or-left (leb 0 (p .base .0)) _ (le-leb 0 (p .base .0) (omega arith))
 
-empty-apart-right : (p : Partition) → apart p (emptySlot .partition) ≡ true
-unfolding apart emptySlot
+empty-apart-right : (p : Partition) → areApart p (emptySlot .partition) ≡ true
+unfolding areApart emptySlot
 empty-apart-right p = or-right (leb (partitionEnd p) 0) _ (le-leb 0 (p .base .0) (omega arith))
 
 -- it is sound exactly if its size is in range and the slot is sound by itself
-pub alone-sound : (size : ℕ) (s : Slot) → tableSound (aloneTable size s) ≡ (within size 65536 && slotSound size s)
+pub alone-sound : (size : ℕ) (s : Slot) → tableSound (aloneTable size s) ≡ (isWithin size 65536 && slotSound size s)
 unfolding tableSound withSlot slotAt allAfter allBelow clearOfOthers
 alone-sound size s = simp (empty-sound size, empty-apart-left, empty-apart-right, and-true)
 
@@ -50,10 +51,10 @@ alone-refusal s memory room = rw (alone-sound (length memory) s, eq-eqb (length 
 
 -- a memory whose length is out of range refuses the slot by 1
 pub not-new : (s : Slot) (memory buffer : List ℕ) → newRefusal (length memory) ≢ 0 → lentOutcome (record { refusal = 1; count = 0 }) s buffer ≡ drainSlotOf s memory buffer
-unfolding newRefusal refusalBy unless if_then_else_ drainSlotOf lentRefusal
-not-new s memory buffer h = alone-by-test (within (length memory) 65536) refl
+unfolding condition-definitions newRefusal drainSlotOf lentRefusal
+not-new s memory buffer h = alone-by-test (isWithin (length memory) 65536) refl
   where
-    alone-by-test : (b : Bool) → within (length memory) 65536 ≡ b → lentOutcome (record { refusal = 1; count = 0 }) s buffer ≡ drainSlotOf s memory buffer
+    alone-by-test : (b : Bool) → isWithin (length memory) 65536 ≡ b → lentOutcome (record { refusal = 1; count = 0 }) s buffer ≡ drainSlotOf s memory buffer
     alone-by-test true e = absurd (h (rw e))
     alone-by-test false e = rw e
 
@@ -88,11 +89,11 @@ module _ (s : Slot) (memory buffer : List ℕ) where
 
   pub alone-drained :
       lentOutcome
-      (record { refusal = aloneOutcome .number; count = drainedCount aloneSystem 0 (length buffer) })
+      (record { refusal = aloneOutcome .refusal; count = drainedCount aloneSystem 0 (length buffer) })
       (slotAt (aloneOutcome .after .table) 0)
       (drainedBuffer aloneSystem 0 buffer)
       ≡ drainSlotOf s memory buffer
-  unfolding outcomeOf afterCall afterAccepted patchOf drainedCount drainedBuffer drainSlotOf slotAt withSlot
+  unfolding drain-definitions drainSlotOf
   alone-drained = rw (alone-refusal s memory (length buffer)) (alone-by-test (lentRefusal s (length memory) (length buffer)) _ refl)
 
 -- the same for whoever knows the answers of the call and the table it was made with
@@ -104,4 +105,4 @@ pub by-draining :
     → b ≡ drainedBuffer (system (withSlot t 0 s) memory) 0 buffer
     → lentOutcome (record { refusal = r; count = n }) (slotAt t' 0) b ≡ drainSlotOf s memory buffer
 by-draining s memory buffer t e r n t' b h i j =
-    rw (ap (λ (o : Outcome). o .number) h, ap (λ (o : Outcome). o .after .table) h, i, j, e) (alone-drained s memory buffer)
+    rw (ap (λ (o : Outcome). o .refusal) h, ap (λ (o : Outcome). o .after .table) h, i, j, e) (alone-drained s memory buffer)

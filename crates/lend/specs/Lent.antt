@@ -1,4 +1,4 @@
--- Definitions that must be believed: draining over one slot's record, lent with its memory and a buffer (document 01, "Floor and bays":
+-- Definitions that must be believed: draining over one slot that is lent with its memory and a buffer (document 01, "Floor and bays":
 -- collecting over one station's record).
 use mathlib.Core.Bool.{not, _&&_}
 use mathlib.Core.List.{List, [], _∷_, _++_}
@@ -7,7 +7,7 @@ use lib.Dec.{eqb}
 use lib.ListN.{length, drop}
 use Rattle.common.specs.Choice.{if_then_else_}
 use Rattle.common.specs.Refusals.{_gives_, refusalBy}
-use Rattle.common.specs.Ranges.{within}
+use Rattle.common.specs.Ranges.{isWithin}
 use Rattle.supervisor.specs.Draining.{drainConditions, drainedState, writtenBytes}
 use Rattle.supervisor.specs.Table.{slotWithState, isEmpty}
 use Rattle.supervisor.specs.Sound.{slotSound}
@@ -18,7 +18,7 @@ use Rattle.lend.specs.declared.lent.LentAnswer.{LentAnswer}
 -- what refuses it: 1 if the memory's length is out of range or the slot breaks a rule of a sound table, disjointness aside, its
 -- partition measured against that memory; then 5; then what refuses a draining
 unfoldable pub lentRefusal : Slot → ℕ → ℕ → ℕ
-lentRefusal s size room = refusalBy ((not (within size 65536 && slotSound size s) gives 1 ∷ isEmpty s gives 5 ∷ []) ++ drainConditions s room)
+lentRefusal s size room = refusalBy ((not (isWithin size 65536 && slotSound size s) gives 1 ∷ isEmpty s gives 5 ∷ []) ++ drainConditions s room)
 
 -- what it gives and leaves, as one value: the answer with the slot, and the buffer
 pub record LentOutcome : Type 0 where
@@ -30,7 +30,7 @@ slotOutcome a buffer = record { answer = a; buffer = buffer }
 
 -- the same where the slot stands behind a reference
 abbrev pub lentOutcome : LentAnswer → Slot → List ℕ → LentOutcome
-lentOutcome t s buffer = slotOutcome (record { taken = t; slot = s }) buffer
+lentOutcome d s buffer = slotOutcome (record { drained = d; slot = s }) buffer
 
 -- a refusal leaves everything; else it does what draining does
 unfoldable pub drainSlotOf : Slot → List ℕ → List ℕ → LentOutcome

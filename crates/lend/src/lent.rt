@@ -1,4 +1,4 @@
-// Draining over one slot's record, lent for alteration (document 01, "Floor and bays").
+// Draining over one slot that is lent by reference (document 01, "Floor and bays": collecting over one station's record).
 ghost use mathlib.Core.Path.{_≡_};
 ghost use Rattle.lend.specs.Lent.{slotOutcome, drainSlotOf, lentOutcome};
 use supervisor::Slot;
@@ -12,15 +12,15 @@ pub struct LentAnswer {
 
 // The same, and the slot: the given one where the call is refused.
 pub struct SlotAnswer {
-    pub taken: LentAnswer,
+    pub drained: LentAnswer,
     pub slot: Slot,
 }
 
 fn refused_answer(refusal: u8, slot: Slot) -> SlotAnswer
-    ensures { λ r. ⌜ r ≡ record { taken = record { refusal = refusal; count = 0 }; slot = slot } ⌝ }
+    ensures { λ r. ⌜ r ≡ record { drained = record { refusal = refusal; count = 0 }; slot = slot } ⌝ }
 {
-    let taken = LentAnswer { refusal, count: 0 };
-    SlotAnswer { taken, slot }
+    let drained = LentAnswer { refusal, count: 0 };
+    SlotAnswer { drained, slot }
 }
 
 // Drains the slot as the only one of a table: by value, and all of the work.
@@ -34,13 +34,13 @@ pub fn drain_slot(slot: Slot, memory: &[u8], buffer: &mut [u8]) -> SlotAnswer
     let mut alone = fresh.table;
     alone.slots[0] = slot;
     let d = supervisor::drain(alone, memory, 0, buffer);
-    let taken = LentAnswer {
+    let drained = LentAnswer {
         refusal: d.refusal,
         count: d.count,
     };
     let left = d.table;
     let slot = left.slots[0];
-    SlotAnswer { taken, slot }
+    SlotAnswer { drained, slot }
 }
 
 // The slot is taken out, drained, and put back.
@@ -50,5 +50,5 @@ pub fn drain_lent(slot: &mut Slot, memory: &[u8], buffer: &mut [u8]) -> LentAnsw
     let s = *slot;
     let d = drain_slot(s, memory, buffer);
     *slot = d.slot;
-    d.taken
+    d.drained
 }

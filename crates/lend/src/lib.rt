@@ -1,4 +1,4 @@
-// Draining over one slot's record, lent for alteration (document 01, "Floor and bays").
+// Draining over one slot that is lent by reference (document 01, "Floor and bays": collecting over one station's record).
 mod lent;
 
 pub use lent::LentAnswer;

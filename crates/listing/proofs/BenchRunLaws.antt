@@ -6,7 +6,6 @@ use Prim.Native.Nat.{ℕ, _+_, _*_, _≤_, _<_}
 use native.Mathlib.Omega.{arith}
 use borrow.Author.Tests.{lt-ltb, le-ltb, ne-eqb, eq-eqb}
 use lib.ListN.{length, take, drop}
-use Rattle.common.specs.Refusals.{unless, refusalBy}
 use Rattle.common.specs.Choice.{if_then_else_}
 use Rattle.supervisor.specs.Calls.{refusal, afterCall, Outcome, outcome, outcomeOf, drainedCount, drainedBuffer, reportOf}
 use Rattle.supervisor.specs.System.{System, system, slotOf}
@@ -19,6 +18,7 @@ use Rattle.listing.specs.Text.{refusedLine, linesOf}
 use Rattle.listing.specs.BenchListing.{freshSystem, loadCall, afterRounds, fileRefusal, linesAfter, textOf, memoryAfter, listingOutcome, listingOf}
 use Rattle.listing.specs.UntilStopped.{untilStopped}
 use Rattle.listing.specs.ListingLaws.{slot-loaded, after-rounds-ready, status-low, output-few, output-length, drained-front}
+use Rattle.common.specs.RefusalDefinitions.{condition-definitions}
 
 -- ---- report and output
 
@@ -47,31 +47,31 @@ module _ (x : System) (good : SoundSystem x) (loaded : isEmpty (slotOf x 0) ≡ 
 -- ---- the whole
 
 pub refused-room : (file memory text : List ℕ) → length text < 12326 → listingOutcome 16 0 memory text ≡ listingOf file memory text
-unfolding listingOf unless if_then_else_
+unfolding condition-definitions listingOf
 refused-room file memory text h = rw (lt-ltb (length text) 12326 h)
 
 pub refused-memory : (file memory text : List ℕ) → 12326 ≤ length text → (length memory ≡ 40960 → ⊥) → listingOutcome 2 0 memory text ≡ listingOf file memory text
-unfolding listingOf unless if_then_else_
+unfolding condition-definitions listingOf
 refused-memory file memory text h some = rw (le-ltb (length text) 12326 h, ne-eqb (length memory) 40960 some)
 
 pub listed-text : (file memory text m t : List ℕ) (n : ℕ) → 12326 ≤ length text → length memory ≡ 40960
     → (n ≡ length (textOf file memory)) × ((m ≡ memoryAfter file memory) × (t ≡ textOf file memory ++ drop n text)) → listingOutcome 0 n m t ≡ listingOf file memory text
-unfolding listingOf unless if_then_else_
+unfolding condition-definitions listingOf
 listed-text file memory text m t n h g e = rw (le-ltb (length text) 12326 h, eq-eqb (length memory) 40960 g, e .1 .1, e .1 .0, e .0)
 
 -- ---- the file
 
 module _ (file memory : List ℕ) where
   long-file : 36895 < length file → fileRefusal file memory ≡ 6
-  unfolding fileRefusal refusalBy unless if_then_else_
+  unfolding condition-definitions fileRefusal
   long-file h = rw (lt-ltb 36895 (length file) h)
 
   short-refused : length file ≤ 36895 → (refusal (loadCall file) (freshSystem memory) ≡ 0 → ⊥) → fileRefusal file memory ≡ refusal (loadCall file) (freshSystem memory)
-  unfolding fileRefusal refusalBy unless if_then_else_
+  unfolding condition-definitions fileRefusal
   short-refused h some = rw (le-ltb 36895 (length file) h, ne-eqb (refusal (loadCall file) (freshSystem memory)) 0 some)
 
   short-accepted : length file ≤ 36895 → refusal (loadCall file) (freshSystem memory) ≡ 0 → fileRefusal file memory ≡ 0
-  unfolding fileRefusal refusalBy unless if_then_else_
+  unfolding condition-definitions fileRefusal
   short-accepted h none = rw (le-ltb 36895 (length file) h, none)
 
   -- the answer and both lent slices where the file is refused, and where it is not
@@ -89,9 +89,9 @@ module _ (file memory : List ℕ) where
     from-new : outcome k t₂ m₂ ≡ outcomeOf (loadCall file) (freshSystem memory)
     from-new = answer ∙ ap (λ (t : Table). outcomeOf (loadCall file) (system t memory)) new
 
-    load-number : k ≡ refusal (loadCall file) (freshSystem memory)
+    load-refusal : k ≡ refusal (loadCall file) (freshSystem memory)
     unfolding outcomeOf
-    load-number = ap (λ (o : Outcome). o .number) from-new
+    load-refusal = ap (λ (o : Outcome). o .refusal) from-new
 
     load-after : system t₂ m₂ ≡ afterCall (loadCall file) (freshSystem memory)
     unfolding outcomeOf
@@ -101,9 +101,9 @@ module _ (file memory : List ℕ) where
         → (n ≡ length (textOf file memory)) × ((m₂ ≡ memoryAfter file memory) × (t ≡ textOf file memory ++ drop n t₀))
     unfolding afterCall if_then_else_
     refused-load n t₀ t some e =
-        let z : refusal (loadCall file) (freshSystem memory) ≡ 0 → ⊥ = λ h. some (load-number ∙ h) in
+        let z : refusal (loadCall file) (freshSystem memory) ≡ 0 → ⊥ = λ h. some (load-refusal ∙ h) in
         let kept : m₂ ≡ memory = ap (λ (x : System). x .memory) load-after ∙ rw (ne-eqb (refusal (loadCall file) (freshSystem memory)) 0 z) in
-        let whole = refused-text k n t₀ t (short-refused short z ∙ sym load-number) some e in
+        let whole = refused-text k n t₀ t (short-refused short z ∙ sym load-refusal) some e in
         (whole .0, (kept ∙ whole .1 .0, whole .1 .1))
 
     module _ (none : k ≡ 0) (room : length memory ≡ 40960) (t₃ : Table) (m₃ : List ℕ) (ran : system t₃ m₃ ≡ untilStopped 1000 (system t₂ m₂)) where
@@ -112,7 +112,7 @@ module _ (file memory : List ℕ) where
       end-after-rounds = ran ∙ ap (untilStopped 1000) load-after
 
       end-ready : ReadySlot (system t₃ m₃) 0
-      end-ready = rw end-after-rounds (after-rounds-ready file memory room (sym load-number ∙ none))
+      end-ready = rw end-after-rounds (after-rounds-ready file memory room (sym load-refusal ∙ none))
 
       pub end-sound : SoundSystem (system t₃ m₃)
       end-sound = end-ready .system
@@ -124,4 +124,4 @@ module _ (file memory : List ℕ) where
           → (n ≡ length (textOf file memory)) × ((m₃ ≡ memoryAfter file memory) × (t ≡ textOf file memory ++ drop n t₀))
       unfolding textOf memoryAfter if_then_else_
       after-rounds-text n t₀ t e =
-          rw (short-accepted short (sym load-number ∙ none), ← end-after-rounds) (e .0, (refl, e .1))
+          rw (short-accepted short (sym load-refusal ∙ none), ← end-after-rounds) (e .0, (refl, e .1))

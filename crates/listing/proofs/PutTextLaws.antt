@@ -16,27 +16,27 @@ use Rattle.listing.specs.TextLaws.{field-length, fields-length, fields-a
 -- ---- fields, in a loop
 
 module _ (d : List ℕ) (at : ℕ) (bytes : List ℕ) (room : at + 3 * length bytes ≤ length d) where
-  pub none-put : d ≡ copied d at (fields (take 0 bytes))
+  pub fields-put-none : d ≡ copied d at (fields (take 0 bytes))
   unfolding fields
-  none-put = sym (copied-whole d at [] (omega arith) ∙ rw (append-nil, add-zero, take-append-drop))
+  fields-put-none = sym (copied-whole d at [] (omega arith) ∙ rw (append-nil, add-zero, take-append-drop))
 
-  pub one-more : (i : ℕ) (t u : List ℕ) → i < length bytes → t ≡ copied d at (fields (take i bytes)) → u ≡ copied t (at + 3 * i) (field (getD bytes i 0))
+  pub fields-put-more : (i : ℕ) (t u : List ℕ) → i < length bytes → t ≡ copied d at (fields (take i bytes)) → u ≡ copied t (at + 3 * i) (field (getD bytes i 0))
       → u ≡ copied d at (fields (take (i + 1) bytes))
-  one-more i t u h e f =
+  fields-put-more i t u h e f =
       let k : length (take i bytes) ≡ i = length-take-le i bytes (omega arith) in
       let l : length (fields (take i bytes)) ≡ 3 * i = fields-length (take i bytes) ∙ ap (λ (j : ℕ). 3 * j) k in
       let n : length (field (getD bytes i 0)) ≡ 3 = field-length (getD bytes i 0) in
       rw (fields-more bytes i h)
       (copied-next d t u at (at + 3 * i) (fields (take i bytes)) (field (getD bytes i 0)) e f (omega arith) (omega arith))
 
-  pub all-put : (i : ℕ) (t : List ℕ) → i ≤ length bytes → length bytes ≤ i → t ≡ copied d at (fields (take i bytes)) → t ≡ copied d at (fields bytes)
-  all-put i t h g e = e ∙ ap (λ (l : List ℕ). copied d at (fields l)) (take-all i bytes g)
+  pub fields-put-all : (i : ℕ) (t : List ℕ) → i ≤ length bytes → length bytes ≤ i → t ≡ copied d at (fields (take i bytes)) → t ≡ copied d at (fields bytes)
+  fields-put-all i t h g e = e ∙ ap (λ (l : List ℕ). copied d at (fields l)) (take-all i bytes g)
 
 -- ---- lines
 
 -- a text at the front of a buffer, the rest left
-front-put : (d t s : List ℕ) (n : ℕ) → t ≡ copied d 0 s → length s ≤ length d → n ≡ length s → (n ≡ length s) × (t ≡ s ++ drop n d)
-front-put d t s n e fits k = (k, e ∙ copied-front d s fits ∙ ap (λ (i : ℕ). s ++ drop i d) (sym k))
+text-at-front : (d t s : List ℕ) (n : ℕ) → t ≡ copied d 0 s → length s ≤ length d → n ≡ length s → (n ≡ length s) × (t ≡ s ++ drop n d)
+text-at-front d t s n e fits k = (k, e ∙ copied-front d s fits ∙ ap (λ (i : ℕ). s ++ drop i d) (sym k))
 
 pub refused-put : (n k : ℕ) (t₀ t₁ t₂ t₃ : List ℕ) → 11 ≤ length t₀ → t₁ ≡ copied t₀ 0 (ascii "refused ") → (k ≡ length (decimalDigits n)) × (t₂ ≡ copied t₁ 8 (decimalDigits n)) → t₃ ≡ copied t₂ (8 + k) (ascii "\n")
     → (8 + k + 1 ≡ length (refusedLine n)) × (t₃ ≡ refusedLine n ++ drop (8 + k + 1) t₀)
@@ -49,7 +49,7 @@ refused-put n k t₀ t₁ t₂ t₃ room e₁ e₂ e₃ =
     let two : t₃ ≡ copied t₀ 0 (ascii "refused " ++ decimalDigits n ++ ascii "\n") =
     copied-next t₀ t₂ t₃ 0 (8 + k) (ascii "refused " ++ decimalDigits n) (ascii "\n") one e₃ (omega (arith, e₂ .0)) (omega arith)
     in
-    front-put t₀ t₃ _ (8 + k + 1) two (omega arith) (omega (arith, e₂ .0))
+    text-at-front t₀ t₃ _ (8 + k + 1) two (omega arith) (omega (arith, e₂ .0))
 
 -- the values of a report in two stretches
 pub fields-put : (psu psl : ℕ) (registers t₀ t₁ t₂ : List ℕ) → length registers ≡ 7 → 33 ≤ length t₀
@@ -80,9 +80,9 @@ module _ (r : Report) (o : List ℕ) (low : r .status < 10) (seven : length (r .
   fields-text-length : length fieldsText ≡ 27
   fields-text-length = let h = fields-length (r .psu ∷ r .psl ∷ r .registers) in omega (arith, h, seven)
 
-  pieces : headText ++ fieldsText ++ betweenText ++ fields o ++ ascii "\n" ≡ linesOf r o
+  pieces-are-lines : headText ++ fieldsText ++ betweenText ++ fields o ++ ascii "\n" ≡ linesOf r o
   unfolding linesOf reportLine outputLine
-  pieces = six-parts headText fieldsText (ascii "\n") (ascii "out") (fields o) (ascii "\n")
+  pieces-are-lines = six-parts headText fieldsText (ascii "\n") (ascii "out") (fields o) (ascii "\n")
 
   pub lines-put : (t₀ t₁ t₂ t₃ t₄ t₅ : List ℕ) → 38 + 3 * length o ≤ length t₀ → t₁ ≡ copied t₀ 0 headText → t₂ ≡ copied t₁ 6 fieldsText → t₃ ≡ copied t₂ 33 betweenText
       → t₄ ≡ copied t₃ 37 (fields o) → t₅ ≡ copied t₄ (37 + 3 * length o) (ascii "\n")
@@ -105,4 +105,4 @@ module _ (r : Report) (o : List ℕ) (low : r .status < 10) (seven : length (r .
       let whole : length (headText ++ fieldsText ++ betweenText ++ fields o ++ ascii "\n") ≡ 37 + 3 * length o + 1 =
       length-append (headText ++ fieldsText ++ betweenText ++ fields o) (ascii "\n") ∙ omega arith
       in
-      rw (← pieces) (front-put t₀ t₅ _ (37 + 3 * length o + 1) five (omega arith) (omega arith))
+      rw (← pieces-are-lines) (text-at-front t₀ t₅ _ (37 + 3 * length o + 1) five (omega arith) (omega arith))

@@ -37,6 +37,7 @@ fileRefusal file memory =
 unfoldable pub linesAfter : System → List ℕ
 linesAfter x = linesOf (reportOf (x .table) 0) (writtenBytes (slotOf x 0) (x .memory))
 
+-- the text: the two lines, or the one of a refused file
 unfoldable pub textOf : List ℕ → List ℕ → List ℕ
 textOf file memory =
     if eqb (fileRefusal file memory) 0 then linesAfter (afterRounds file memory) else refusedLine (fileRefusal file memory)
@@ -51,13 +52,13 @@ longestText = 34 + 3 + 4096 * 3 + 1
 
 -- what a listing answers and leaves, as one value
 pub record ListingOutcome : Type 0 where
-  pub number : ℕ
+  pub refusal : ℕ
   pub size : ℕ
   pub memory : List ℕ
   pub text : List ℕ
 
 abbrev pub listingOutcome : ℕ → ℕ → List ℕ → List ℕ → ListingOutcome
-listingOutcome n size memory text = record { number = n; size = size; memory = memory; text = text }
+listingOutcome n size memory text = record { refusal = n; size = size; memory = memory; text = text }
 
 -- a listing that has no room for the longest text, or another memory, is refused and changes nothing; else the text stands at the
 -- front of the buffer and the rest is left

@@ -5,23 +5,17 @@ use Prim.Native.Nat.{ℕ, _≤_}
 use borrow.Author.Tests.{eq-eqb, le-ltb}
 use lib.ListN.{length, drop}
 use Rattle.cpu.specs.Cases as machine
-use Rattle.common.specs.Choice.{if_then_else_}
-use Rattle.common.specs.Repetition.{times}
 use Rattle.pattern.specs.Cases as pattern
 use Rattle.pattern.specs.Reader as reader
-use Rattle.common.specs.Refusals.{unless, refusalBy}
-use Rattle.supervisor.specs.Calls.{change, load, run, refusal, afterAccepted, afterCall, reportOf}
+use Rattle.supervisor.specs.Calls.{change, load, run, refusal, afterCall, reportOf}
 use Rattle.supervisor.specs.System.{System, system, slotOf}
-use Rattle.supervisor.specs.Table.{newTable, newRefusal}
-use Rattle.supervisor.specs.Loading.{partitionFor}
-use Rattle.loader.specs.Fresh.{freshState, freshBytes, freshMachine}
+use Rattle.supervisor.specs.Table.{newTable}
+use Rattle.loader.specs.Fresh.{freshMachine}
 use Rattle.listing.specs.Ascii.{ascii}
 use Rattle.listing.specs.BenchListing.{freshSystem, loadCall, fileRefusal, textOf, memoryAfter, longestText, listingOutcome, listingOf}
-use Rattle.listing.specs.LoneLaws.{aloneUntil, aloneReport, aloneLines, text-alone}
-use Rattle.cpu.specs.StepDefinitions.{step-definitions}
-use Rattle.pattern.specs.FileDefinitions.{file-definitions}
-use Rattle.supervisor.specs.CallDefinitions.{sound-definitions, refusal-definitions, change-definitions, run-definitions}
-use Rattle.listing.specs.TextDefinitions.{text-definitions}
+use Rattle.listing.specs.LoneLaws.{aloneUntil, aloneLines, text-alone}
+use Rattle.common.specs.RefusalDefinitions.{condition-definitions}
+use Rattle.listing.specs.CaseDefinitions.{load-definitions, alone-definitions, round-definitions}
 
 -- K10's partition has 24 bytes, and so has the memory
 abbrev pub k10Before : System
@@ -52,16 +46,16 @@ pub record WorkedCases : Type 0 where
   pub k11-written : slotOf (afterCall (run 1) k10Loaded) 0 .state .written ≡ 0
 
 k10-refusal : (memory : List ℕ) → length memory ≡ 40960 → refusal (loadCall pattern.k10) (freshSystem memory) ≡ 0
-unfolding file-definitions sound-definitions refusal-definitions newTable newRefusal partitionFor
+unfolding load-definitions
 k10-refusal memory h = rw (eq-eqb (length memory) 40960 h)
 
 k10-alone : aloneLines (aloneUntil 1000 (reader.parametersOf pattern.k10 .quantum) (freshMachine pattern.k10)) ≡ k10Text
-unfolding step-definitions file-definitions text-definitions times partitionFor freshState freshBytes freshMachine aloneLines aloneUntil aloneReport
+unfolding alone-definitions
 k10-alone = refl
 
 k10-listing : (memory text : List ℕ) → length memory ≡ 40960 → longestText ≤ length text
     → listingOf pattern.k10 memory text ≡ listingOutcome 0 41 (memoryAfter pattern.k10 memory) (k10Text ++ drop 41 text)
-unfolding listingOf fileRefusal refusalBy unless if_then_else_
+unfolding condition-definitions listingOf fileRefusal
 k10-listing memory text h room =
     let none : refusal (loadCall pattern.k10) (freshSystem memory) ≡ 0 = k10-refusal memory h in
     let read : fileRefusal pattern.k10 memory ≡ 0 = rw none in
@@ -69,7 +63,7 @@ k10-listing memory text h room =
     rw (le-ltb (length text) longestText room, eq-eqb (length memory) 40960 h, same)
 
 pub worked-cases : WorkedCases
-unfolding step-definitions file-definitions sound-definitions refusal-definitions change-definitions run-definitions newTable newRefusal afterCall afterAccepted freshBytes reportOf
+unfolding round-definitions
 worked-cases =
     record {
       instructions = machine.worked-steps;

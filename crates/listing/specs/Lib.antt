@@ -9,4 +9,7 @@ pub mod TextDefinitions
 pub mod TextLaws
 pub mod ListingLaws
 pub mod LoneLaws
+-- Names for lists of definitions.
+pub mod CaseDefinitions
+-- Laws that the checker has shown.
 pub mod Cases

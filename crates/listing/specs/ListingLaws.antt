@@ -9,7 +9,6 @@ use lib.Dec.{eqb, ltb}
 use lib.ListN.{length, take, drop}
 use lib.Seq.{take-at}
 use Rattle.common.specs.Choice.{if_then_else_}
-use Rattle.common.specs.Refusals.{unless, refusalBy}
 use Rattle.common.specs.TestLaws.{and-fact}
 use Rattle.loader.specs.Fresh.{freshState}
 use Rattle.slices.specs.SliceLaws.{part-length}
@@ -29,13 +28,14 @@ use Rattle.supervisor.specs.IsolationTheorem.{run-accepted}
 use Rattle.listing.specs.BenchListing.{freshSystem, loadCall, afterRounds}
 use Rattle.listing.specs.UntilStopped.{untilStopped}
 use Rattle.supervisor.specs.CallDefinitions.{sound-definitions, refusal-definitions}
+use Rattle.common.specs.RefusalDefinitions.{condition-definitions}
 
 -- slot 0 is loaded
 pub slot-loaded : (x : System) → ReadySlot x 0 → isEmpty (slotOf x 0) ≡ false
 slot-loaded x r = loaded-live _ _ (r .holds .loaded)
 
 pub fresh-sound : (memory : List ℕ) → length memory ≡ 40960 → SoundSystem (freshSystem memory)
-unfolding sound-definitions newTable newRefusal refusalBy unless if_then_else_
+unfolding condition-definitions sound-definitions newTable newRefusal
 fresh-sound memory h = record { table = table-fact (newTable 40960) refl; fits = h }
 
 -- an accepted load

@@ -28,10 +28,12 @@ decimalDigits n = if ltb n 10 then (code "0" + n) ∷ [] else (code "0" + n / 10
 unfoldable pub field : ℕ → List ℕ
 field b = ascii " " ++ hexByte b
 
+-- each byte as such a field
 unfoldable pub fields : List ℕ → List ℕ
 fields [] = []
 fields (b ∷ rest) = field b ++ fields rest
 
+-- `refused` and the number
 unfoldable pub refusedLine : ℕ → List ℕ
 refusedLine n = ascii "refused " ++ decimalDigits n ++ ascii "\n"
 
@@ -43,5 +45,6 @@ reportLine r = decimalDigits (r .status) ++ ascii " " ++ hexWord (r .counter) ++
 unfoldable pub outputLine : List ℕ → List ℕ
 outputLine bytes = ascii "out" ++ fields bytes ++ ascii "\n"
 
+-- both lines
 unfoldable pub linesOf : Report → List ℕ → List ℕ
 linesOf r bytes = reportLine r ++ outputLine bytes

@@ -15,12 +15,12 @@ ghost use Rattle.supervisor.specs.Table.{isEmpty};
 ghost use Rattle.listing.specs.BenchListing.{longestText, listingOutcome, listingOf, linesAfter, textOf, memoryAfter};
 
 // The refusal, 0 for none, and the length of the text.
-pub struct Listed {
+pub struct ListingResult {
     pub refusal: u8,
     pub length: usize,
 }
 
-impl Listed {
+impl ListingResult {
     // The length of the longest text, which is that of two lines with 4,096 bytes of output; of the memory; and of the longest file.
     pub const MAX_TEXT: usize = 12326;
 
@@ -30,7 +30,7 @@ impl Listed {
 }
 
 // The two lines of a system whose slot 0 is loaded: reported on first, and then drained.
-fn put_outcome(table: Table, memory: &[u8], text: &mut [u8]) -> usize
+fn put_report_and_output(table: Table, memory: &[u8], text: &mut [u8]) -> usize
     requires { ⌜ SoundSystem (system table (now memory)) ⌝ }
     requires { ⌜ isEmpty (slotOf (system table (now memory)) 0) ≡ false ⌝ }
     requires { ⌜ longestText ≤ length (now text) ⌝ }
@@ -53,10 +53,10 @@ fn put_text(file: &[u8], memory: &mut [u8], text: &mut [u8]) -> usize
     ensures { λ r. ⌜ now (text .exit) ≡ textOf (now (file .entry)) (now (memory .entry)) ++ drop r (now (text .entry)) ⌝ }
     ensures { λ r. ⌜ r ≤ longestText ⌝ }
 {
-    if Listed::MAX_FILE < file.len() {
+    if ListingResult::MAX_FILE < file.len() {
         return put_refused(6, text);
     }
-    let new = Table::new(Listed::MEMORY_LENGTH);
+    let new = Table::new(ListingResult::MEMORY_LENGTH);
     let empty = new.table;
     let answer = supervisor::load(empty, memory, 0, Location(0), file);
     if answer.refusal != 0 {
@@ -64,28 +64,28 @@ fn put_text(file: &[u8], memory: &mut [u8], text: &mut [u8]) -> usize
     }
     let table = answer.table;
     let end = run_until_stopped(table, memory);
-    put_outcome(end, &memory[..], text)
+    put_report_and_output(end, &memory[..], text)
 }
 
 // The bench run. Whether there is room is a test of the buffer's length alone, made before anything is touched, so that a refusal
 // changes neither the memory nor the buffer. The equation gives the length; that it is never above the longest is said beside it for
 // callers that keep it in 16 bits.
-pub fn listing(file: &[u8], memory: &mut [u8], text: &mut [u8]) -> Listed
+pub fn listing(file: &[u8], memory: &mut [u8], text: &mut [u8]) -> ListingResult
     ensures { λ r. ⌜ listingOutcome (r .refusal) (r .length) (now (memory .exit)) (now (text .exit)) ≡ listingOf (now (file .entry)) (now (memory .entry)) (now (text .entry)) ⌝ }
     ensures { λ r. ⌜ r .length ≤ longestText ⌝ }
 {
-    if text.len() < Listed::MAX_TEXT {
-        return Listed {
+    if text.len() < ListingResult::MAX_TEXT {
+        return ListingResult {
             refusal: 16,
             length: 0,
         };
     }
-    if memory.len() != Listed::MEMORY_LENGTH {
-        return Listed {
+    if memory.len() != ListingResult::MEMORY_LENGTH {
+        return ListingResult {
             refusal: 2,
             length: 0,
         };
     }
     let length = put_text(file, memory, text);
-    Listed { refusal: 0, length }
+    ListingResult { refusal: 0, length }
 }

@@ -3,5 +3,5 @@ mod bench_listing;
 mod text;
 mod until_stopped;
 
-pub use bench_listing::Listed;
+pub use bench_listing::ListingResult;
 pub use bench_listing::listing;

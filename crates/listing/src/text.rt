@@ -36,7 +36,7 @@ fn put_fields(bytes: &[u8], text: &mut [u8], at: usize)
 }
 
 // A status of one digit, and a counter.
-fn put_head(status: u8, counter: u16, text: &mut [u8])
+fn put_status_and_counter(status: u8, counter: u16, text: &mut [u8])
     requires { ⌜ status < 10 ⌝ }
     ensures { λ _. ⌜ now (text .exit) ≡ copied (now (text .entry)) 0 (decimalDigits status ++ ascii " " ++ hexWord counter) ⌝ }
 {
@@ -54,7 +54,7 @@ fn put_head(status: u8, counter: u16, text: &mut [u8])
 }
 
 // The values that stand as bytes behind the counter.
-fn put_values(report: Report, text: &mut [u8])
+fn put_psw_and_registers(report: Report, text: &mut [u8])
     requires { ⌜ 33 ≤ length (now text) ⌝ }
     ensures { λ _. ⌜ now (text .exit) ≡ copied (now (text .entry)) 6 (fields (report .psu ∷ report .psl ∷ report .registers)) ⌝ }
 {
@@ -72,8 +72,8 @@ pub(crate) fn put_lines(report: Report, output: &[u8], text: &mut [u8]) -> usize
     ensures { λ r. ⌜ now (text .exit) ≡ linesOf report (now (output .entry)) ++ drop r (now (text .entry)) ⌝ }
     ensures { λ r. ⌜ r ≡ 38 + 3 * length (now (output .entry)) ⌝ }
 {
-    put_head(report.status, report.counter, text);
-    put_values(report, text);
+    put_status_and_counter(report.status, report.counter, text);
+    put_psw_and_registers(report, text);
     slices::copy(text, 33, b"\nout");
     put_fields(output, text, 37);
     let end = 37 + 3 * output.len();

@@ -13,7 +13,7 @@ use Rattle.pattern.specs.declared.parameters.Parameters.{Parameters}
 
 -- a fresh machine, its counter at the start address; status 1; n bytes of input unread
 unfoldable pub freshState : Parameters → ℕ → State
-freshState v n = withFilled n (withStatus 1 (restingState (freshCpu (v .start))))
+freshState p n = withFilled n (withStatus 1 (restingState (freshCpu (p .start))))
 
 -- the whole partition: the code and the first input at the fronts of their parts, unused bytes zero; of a refused file nothing
 unfoldable pub freshBytes : List ℕ → List ℕ

@@ -14,10 +14,10 @@ use cpu::State;
 use pattern::Parameters;
 
 // A machine at the start address, with so many bytes unread.
-pub fn fresh_state(v: Parameters, filled: u16) -> State
-    ensures { λ r. ⌜ r ≡ freshState v filled ⌝ }
+pub fn fresh_state(parameters: Parameters, filled: u16) -> State
+    ensures { λ r. ⌜ r ≡ freshState parameters filled ⌝ }
 {
-    let mut state = State::at_rest(Cpu::fresh(v.start));
+    let mut state = State::resting(Cpu::fresh(parameters.start));
     state.status = 1;
     state.filled = filled;
     state
@@ -52,10 +52,10 @@ pub fn put_fresh_bytes(file: &[u8], memory: &mut [u8], place: Location)
     ensures { λ _. ⌜ now (memory .exit) ≡ copied (now (memory .entry)) (place .0) (freshBytes (now (file .entry))) ⌝ }
 {
     let answer = pattern::read(file);
-    let pattern::ReadResult::Accepted(v) = answer else {
+    let pattern::ReadResult::Accepted(parameters) = answer else {
         return;
     };
-    let layout = v.layout;
+    let layout = parameters.layout;
     let at = place.0 as usize;
     if memory.len() < at {
         return;

@@ -7,7 +7,7 @@ use Rattle.common.specs.Choice.{if_then_else_}
 use Rattle.cpu.specs.Machine.{Machine, beyond, machineOf, machineStep}
 use Rattle.common.specs.Repetition.{times}
 use Rattle.common.specs.declared.layout.Layout.{Layout}
-use Rattle.encoding.specs.StateEncoding.{stateAt, stateLength}
+use Rattle.encoding.specs.StateEncoding.{stateFromBytes, stateLength}
 
 -- how the partition is divided
 abbrev pub layoutOf : ℕ → ℕ → ℕ → Layout
@@ -15,22 +15,22 @@ layoutOf window input output = record { window = window; input = input; output =
 
 -- what a call leaves in the two lent slices: a machine that ran, and the bytes behind its partition;
 -- or, refused by a number, the slices as they are
-pub data MachineRun : Type 0 where
-  Ran : Machine → List ℕ → MachineRun
-  RunRefused : ℕ → List ℕ → List ℕ → MachineRun
+pub data MachineOutcome : Type 0 where
+  Ran : Machine → List ℕ → MachineOutcome
+  RunRefused : ℕ → List ℕ → List ℕ → MachineOutcome
 
 -- the machine whose state the first slice holds, in its partition
-abbrev pub heldIn : Layout → List ℕ → List ℕ → Machine
-heldIn layout state partition = machineOf layout (stateAt state) partition
+abbrev pub lentMachine : Layout → List ℕ → List ℕ → Machine
+lentMachine layout state partition = machineOf layout (stateFromBytes state) partition
 
 -- by the answer: 0 is a machine that ran, any other a refusal
-unfoldable pub machineRunBy : ℕ → Layout → List ℕ → List ℕ → MachineRun
-machineRunBy answer layout state partition =
-    if eqb answer 0 then Ran (heldIn layout state partition) (beyond layout partition) else RunRefused answer state partition
+unfoldable pub machineOutcome : ℕ → Layout → List ℕ → List ℕ → MachineOutcome
+machineOutcome answer layout state partition =
+    if eqb answer 0 then Ran (lentMachine layout state partition) (beyond layout partition) else RunRefused answer state partition
 
 -- so many steps of the machine; a state of another length is refused by 1
-unfoldable pub machineRunOf : Layout → List ℕ → List ℕ → ℕ → MachineRun
-machineRunOf layout state partition steps =
+unfoldable pub machineOutcomeOf : Layout → List ℕ → List ℕ → ℕ → MachineOutcome
+machineOutcomeOf layout state partition steps =
     if eqb (length state) stateLength
-    then Ran (times steps machineStep (heldIn layout state partition)) (beyond layout partition)
+    then Ran (times steps machineStep (lentMachine layout state partition)) (beyond layout partition)
     else RunRefused 1 state partition

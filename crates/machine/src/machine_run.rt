@@ -1,7 +1,7 @@
 // The run of one machine, whose state crosses the border as bytes.
 ghost use mathlib.Core.Path.{_≡_};
 ghost use Prim.Native.Nat.{_*_};
-ghost use Rattle.machine.specs.MachineRun.{layoutOf, machineRunBy, machineRunOf};
+ghost use Rattle.machine.specs.MachineRun.{layoutOf, machineOutcome, machineOutcomeOf};
 use crate::rounds;
 use common::Layout;
 
@@ -17,7 +17,7 @@ pub extern "C" fn pf_machine_run(
     quantum: u64,
     rounds: u64,
 ) -> u8
-    ensures { λ answer. ⌜ machineRunBy answer (layoutOf window input output) (now (state .exit)) (now (partition .exit)) ≡ machineRunOf (layoutOf window input output) (now (state .entry)) (now (partition .entry)) (rounds * quantum) ⌝ }
+    ensures { λ answer. ⌜ machineOutcome answer (layoutOf window input output) (now (state .exit)) (now (partition .exit)) ≡ machineOutcomeOf (layoutOf window input output) (now (state .entry)) (now (partition .entry)) (rounds * quantum) ⌝ }
 {
     if state.len() != encoding::STATE_LENGTH {
         return 1;
@@ -27,9 +27,9 @@ pub extern "C" fn pf_machine_run(
         input,
         output,
     };
-    let start = encoding::decode(&state[..]);
+    let start = encoding::decode_state(&state[..]);
     let end = rounds::run_rounds(start, partition, layout, quantum, rounds);
-    let bytes = encoding::encode(end);
+    let bytes = encoding::encode_state(end);
     slices::copy(state, 0, &bytes);
     0
 }

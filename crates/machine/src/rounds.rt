@@ -1,3 +1,4 @@
+// Rounds of one machine alone.
 ghost use mathlib.Core.Path.{_≡_};
 ghost use Prim.Native.Nat.{_*_};
 ghost use Rattle.cpu.specs.Machine.{beyond, machineOf, machineStep};

@@ -9,21 +9,27 @@ fn stepped_agrees(s: State, value: u8) -> bool {
     (machine::r1(s) == value) & (machine::counter(s) == target)
 }
 
-fn on_r1(code: u8, value: u8) -> State {
+fn step_on_r1(code: u8, value: u8) -> State {
     let mut window = [code, 14];
     machine::step(machine::started(0, 0, value, 0), &mut window)
 }
 
 pub(crate) fn incrementing_agrees(n: u64) -> bool {
-    stepped_agrees(on_r1(0xD9, (n % 256) as u8), ((n % 256 + 1) % 256) as u8)
+    stepped_agrees(
+        step_on_r1(0xD9, (n % 256) as u8),
+        ((n % 256 + 1) % 256) as u8,
+    )
 }
 
 pub(crate) fn decrementing_agrees(n: u64) -> bool {
-    stepped_agrees(on_r1(0xF9, (n % 256) as u8), ((n % 256 + 255) % 256) as u8)
+    stepped_agrees(
+        step_on_r1(0xF9, (n % 256) as u8),
+        ((n % 256 + 255) % 256) as u8,
+    )
 }
 
 // An instruction of three bytes, or of two and one more, goes from address 0 to 10h; a call adds one to SP.
-fn goes(cc: u64, code: u8, second: u8, third: u8, sp: u8) -> bool {
+fn reaches_10h(cc: u64, code: u8, second: u8, third: u8, sp: u8) -> bool {
     let mut window = [code, second, third];
     let s = machine::step(machine::started(0, 0, 0, (cc % 4 * 64) as u8), &mut window);
     (machine::counter(s) == 16) & (machine::sp(s) == sp)
@@ -33,9 +39,9 @@ fn goes(cc: u64, code: u8, second: u8, third: u8, sp: u8) -> bool {
 pub(crate) fn unconditional_agrees(case: u64) -> bool {
     let cc = case % 4;
     match case / 4 {
-        0 => goes(cc, 0x1B, 14, 0, 0),
-        1 => goes(cc, 0x1F, 0, 16, 0),
-        2 => goes(cc, 0x3B, 14, 0, 1),
-        _ => goes(cc, 0x3F, 0, 16, 1),
+        0 => reaches_10h(cc, 0x1B, 14, 0, 0),
+        1 => reaches_10h(cc, 0x1F, 0, 16, 0),
+        2 => reaches_10h(cc, 0x3B, 14, 0, 1),
+        _ => reaches_10h(cc, 0x3F, 0, 16, 1),
     }
 }

@@ -14,7 +14,7 @@ pub(crate) fn overflow() {
 }
 
 // The low order bit of the result, as the table prints it: for a row, bit 2 is the minuend, bit 1 the subtrahend, bit 0 the carry.
-fn printed(row: u64) -> u8 {
+fn printed_bit(row: u64) -> u8 {
     match row {
         0 => 1,
         3 => 1,
@@ -31,5 +31,5 @@ pub(crate) fn row_agrees(row: u64) -> bool {
         machine::started(0, (row / 4 % 2) as u8, 0, 8 + (row % 2) as u8),
         &mut window,
     );
-    machine::r0(s) % 2 == printed(row)
+    machine::r0(s) % 2 == printed_bit(row)
 }

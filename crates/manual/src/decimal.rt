@@ -3,7 +3,7 @@ ghost use Prim.Native.Nat.{_<_};
 use crate::machine;
 use cpu::State;
 
-fn packed(n: u64) -> u8 {
+fn bcd(n: u64) -> u8 {
     (n / 10 % 10 * 16 + n % 10) as u8
 }
 
@@ -11,15 +11,15 @@ fn packed(n: u64) -> u8 {
 pub(crate) fn sum_agrees(pair: u64) -> bool {
     let a = pair / 100 % 100;
     let b = pair % 100;
-    let mut window = [0x84, 0x66, 0x84, packed(b), 0x94];
-    let s = machine::run(machine::started(0, packed(a), 0, 0), &mut window, 3);
+    let mut window = [0x84, 0x66, 0x84, bcd(b), 0x94];
+    let s = machine::run(machine::started(0, bcd(a), 0, 0), &mut window, 3);
     let carry = if a + b < 100 { 0 } else { 1 };
-    (machine::r0(s) == packed((a + b) % 100)) & (machine::carry(s) == carry)
+    (machine::r0(s) == bcd((a + b) % 100)) & (machine::carry(s) == carry)
 }
 
 fn difference(minuend: u64, subtrahend: u64) -> State {
-    let mut window = [0xA4, packed(subtrahend), 0x94];
-    machine::run(machine::started(0, packed(minuend), 0, 0), &mut window, 2)
+    let mut window = [0xA4, bcd(subtrahend), 0x94];
+    machine::run(machine::started(0, bcd(minuend), 0, 0), &mut window, 2)
 }
 
 // Subtraction, then DAR. The numbers are of sign and magnitude: the larger is the minuend, so that C tells of no borrow.
@@ -32,7 +32,7 @@ pub(crate) fn difference_agrees(pair: u64) -> bool {
         difference(a, b)
     };
     let magnitude = if a < b { b - a } else { a - b };
-    (machine::r0(s) == packed(magnitude)) & (machine::carry(s) == 1)
+    (machine::r0(s) == bcd(magnitude)) & (machine::carry(s) == 1)
 }
 
 // The table of what DAR adds: a digit gets ten if its carry, C for the high one and IDC for the low one, is 0.

@@ -4,7 +4,7 @@ use crate::print;
 use cpu::State;
 
 // LODA,R0 H'10',R1 with an index control; 10h holds A1h and 10Fh holds A2h.
-fn loaded(control: u8, index: u8) -> State {
+fn load_indexed(control: u8, index: u8) -> State {
     let mut window = [0u8; 0x110];
     window[0] = 0x0D;
     window[1] = control;
@@ -14,16 +14,16 @@ fn loaded(control: u8, index: u8) -> State {
     machine::step(machine::started(0, 0, index, 0), &mut window)
 }
 
-fn told(s: State, index: u8, byte: u8) {
+fn print_index_and_r0(s: State, index: u8, byte: u8) {
     print::byte(machine::r1(s));
     print::text(b", R0 ");
     print::byte(machine::r0(s));
     print::verdict((machine::r1(s) == index) & (machine::r0(s) == byte));
 }
 
-pub(crate) fn around() {
+pub(crate) fn wrapping_index() {
     print::text(b"Appendix F, note 2, index FF and one more: ");
-    told(loaded(0x20, 0xFF), 0, 0xA1);
+    print_index_and_r0(load_indexed(0x20, 0xFF), 0, 0xA1);
     print::text(b"Appendix F, note 2, index 00 and one less: ");
-    told(loaded(0x40, 0), 0xFF, 0xA2);
+    print_index_and_r0(load_indexed(0x40, 0), 0xFF, 0xA2);
 }

@@ -54,7 +54,7 @@ fn main() {
         256,
         b"values",
     );
-    index::around();
+    index::wrapping_index();
     tally::line(
         b"Appendix F, note 9, unconditional branches",
         Family::Unconditional,

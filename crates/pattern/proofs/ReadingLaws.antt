@@ -12,17 +12,17 @@ use Rattle.pattern.specs.declared.reader.ReadResult.{ReadResult}
 use Rattle.pattern.specs.declared.reader.ReadResult.the-variants.{Accepted, Refused}
 
 -- the reading from a record on, with the parameters that were read before
-abbrev pub onEnd : Parameters → List ℕ → ReadResult
-onEnd v e = unless Refused (endConditions e) (Accepted v)
+abbrev pub readFromEnd : Parameters → List ℕ → ReadResult
+readFromEnd v e = unless Refused (endConditions e) (Accepted v)
 
-abbrev pub onInput : Parameters → List ℕ → ReadResult
-onInput v i = unless Refused (inputConditions v i) (onEnd v (afterRecord i))
+abbrev pub readFromInput : Parameters → List ℕ → ReadResult
+readFromInput v i = unless Refused (inputConditions v i) (readFromEnd v (afterRecord i))
 
-abbrev pub onCode : Parameters → List ℕ → ReadResult
-onCode v c = unless Refused (codeConditions v c) (onInput v (afterRecord c))
+abbrev pub readFromCode : Parameters → List ℕ → ReadResult
+readFromCode v c = unless Refused (codeConditions v c) (readFromInput v (afterRecord c))
 
-abbrev pub onParameters : List ℕ → ReadResult
-onParameters p = unless Refused (parametersConditions 1 p) (onCode (parametersIn 1 p) (afterRecord p))
+abbrev pub readFromParameters : List ℕ → ReadResult
+readFromParameters p = unless Refused (parametersConditions 1 p) (readFromCode (parametersIn 1 p) (afterRecord p))
 
 module _ (ks : List Condition) (u : Parameters) {r : ReadResult} (answered : r ≡ unless Refused ks (Accepted u)) where
   -- a refused record
@@ -38,27 +38,27 @@ module _ (ks : List Condition) (u : Parameters) {r : ReadResult} (answered : r �
 
 -- each step: the next record's part of the file, what the record answered, and that it was accepted
 pub after-version : (s p : List ℕ) {r : ReadResult} {u : Parameters} → p ≡ afterRecord s → r ≡ unless Refused (versionConditions s) (Accepted noParameters)
-    → r ≡ Accepted u → readOf s ≡ onParameters p
+    → r ≡ Accepted u → readOf s ≡ readFromParameters p
 unfolding readOf
 after-version s p place answered told =
     let form = version-record s (unless-none Refused (versionConditions s) (Accepted noParameters) refused-accepted (sym answered ∙ told) .0) .form in
     reading-goes-on (versionConditions s) noParameters answered told _ ∙ rw (form, ← place)
 
 pub after-parameters : (p c : List ℕ) {r : ReadResult} {v : Parameters} → c ≡ afterRecord p → r ≡ unless Refused (parametersConditions 1 p) (Accepted (parametersIn 1 p))
-    → r ≡ Accepted v → onParameters p ≡ onCode v c
+    → r ≡ Accepted v → readFromParameters p ≡ readFromCode v c
 after-parameters p c place answered told =
     reading-goes-on (parametersConditions 1 p) (parametersIn 1 p) answered told _
-    ∙ ap (λ (l : List ℕ). onCode (parametersIn 1 p) l) (sym place)
-    ∙ ap (λ (w : Parameters). onCode w c) (reading-keeps (parametersConditions 1 p) (parametersIn 1 p) answered told)
+    ∙ ap (λ (l : List ℕ). readFromCode (parametersIn 1 p) l) (sym place)
+    ∙ ap (λ (w : Parameters). readFromCode w c) (reading-keeps (parametersConditions 1 p) (parametersIn 1 p) answered told)
 
 module _ (v : Parameters) where
   pub after-code : (c i : List ℕ) {r : ReadResult} {w : Parameters} → i ≡ afterRecord c → r ≡ unless Refused (codeConditions v c) (Accepted v)
-      → r ≡ Accepted w → onCode v c ≡ onInput v i
-  after-code c i place answered told = reading-goes-on (codeConditions v c) v answered told _ ∙ ap (onInput v) (sym place)
+      → r ≡ Accepted w → readFromCode v c ≡ readFromInput v i
+  after-code c i place answered told = reading-goes-on (codeConditions v c) v answered told _ ∙ ap (readFromInput v) (sym place)
 
   pub after-input : (i e : List ℕ) {r : ReadResult} {w : Parameters} → e ≡ afterRecord i → r ≡ unless Refused (inputConditions v i) (Accepted v)
-      → r ≡ Accepted w → onInput v i ≡ onEnd v e
-  after-input i e place answered told = reading-goes-on (inputConditions v i) v answered told _ ∙ ap (onEnd v) (sym place)
+      → r ≡ Accepted w → readFromInput v i ≡ readFromEnd v e
+  after-input i e place answered told = reading-goes-on (inputConditions v i) v answered told _ ∙ ap (readFromEnd v) (sym place)
 
-  pub after-end : (e : List ℕ) {r : ReadResult} {w : Parameters} → r ≡ unless Refused (endConditions e) (Accepted v) → r ≡ Accepted w → onEnd v e ≡ Accepted v
+  pub after-end : (e : List ℕ) {r : ReadResult} {w : Parameters} → r ≡ unless Refused (endConditions e) (Accepted v) → r ≡ Accepted w → readFromEnd v e ≡ Accepted v
   after-end e answered told = reading-goes-on (endConditions e) v answered told _

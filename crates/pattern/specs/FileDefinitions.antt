@@ -4,15 +4,15 @@ use Rattle.common.specs.Choice.{if_then_else_}
 use Rattle.common.specs.Layout.{layoutSound}
 use Rattle.common.specs.Refusals.{unless}
 use Rattle.common.specs.Tests.{allAfter}
-use Rattle.pattern.specs.Frame.{afterRecord, bodyLength, bodyOf, framed, recordOf}
+use Rattle.pattern.specs.Frame.{afterRecord, bodyLength, bodyOf, hasFrame, recordOf}
 use Rattle.pattern.specs.Image.{endsInZero, trim}
-use Rattle.pattern.specs.Parameters.{inRange, parametersAt, parametersBytes}
+use Rattle.pattern.specs.Parameters.{inRange, parametersFromBytes, parametersBytes}
 use Rattle.pattern.specs.Reader.{codeConditions, codeOf, endConditions, inputConditions, inputOf, parametersConditions, readOf, versionConditions}
 use Rattle.pattern.specs.Writer.{recordsOf, writeConditions, writeOf}
 
 -- records, the window and the parameters
 unfoldable pub record-definitions : Type 0
-unfolding recordOf bodyLength bodyOf afterRecord framed trim endsInZero layoutSound inRange parametersAt parametersBytes allAfter
+unfolding recordOf bodyLength bodyOf afterRecord hasFrame trim endsInZero layoutSound inRange parametersFromBytes parametersBytes allAfter
 record-definitions = Unit {0}
 
 -- reading and writing

@@ -30,9 +30,9 @@ unfoldable pub afterRecord : List ℕ → List ℕ
 afterRecord s = drop (recordLength s) s
 
 -- the record at the front of s has the mark `P` and m, and its body is inside s
-unfoldable pub framed : ℕ → List ℕ → Bool
-framed m s = all (eqb (getD s 0 0) 0x50 ∷ eqb (getD s 1 0) m ∷ leb (recordLength s) (length s) ∷ [])
+unfoldable pub hasFrame : ℕ → List ℕ → Bool
+hasFrame m s = all (eqb (getD s 0 0) 0x50 ∷ eqb (getD s 1 0) m ∷ leb (recordLength s) (length s) ∷ [])
 
 -- the same, with a body of n bytes
-abbrev pub fixed : ℕ → ℕ → List ℕ → Bool
-fixed m n s = framed m s && eqb (bodyLength s) n
+abbrev pub hasFrameOfLength : ℕ → ℕ → List ℕ → Bool
+hasFrameOfLength m n s = hasFrame m s && eqb (bodyLength s) n

@@ -15,7 +15,7 @@ use Rattle.slices.specs.Numbers.{u16Bytes}
 use Rattle.slices.specs.NumberLaws.{u16-back, u16-again}
 use Rattle.slices.specs.PieceLaws.{part-tabulated}
 use Rattle.slices.specs.Slices.{Bytes, partOf}
-use Rattle.pattern.specs.Frame.{frameLength, recordOf, bodyLength, bodyOf, recordLength, afterRecord, framed, fixed}
+use Rattle.pattern.specs.Frame.{frameLength, recordOf, bodyLength, bodyOf, recordLength, afterRecord, hasFrame, hasFrameOfLength}
 
 -- ---- a record that was written, with any bytes behind it
 
@@ -40,16 +40,16 @@ module _ (m : ℕ) (body rest : List ℕ) where
   unfolding bodyLength recordOf
   record-body-length = u16-back (length body) (body ++ rest)
 
-  pub record-framed : framed m (recordOf m body ++ rest) ≡ true
-  unfolding framed
-  record-framed =
+  pub record-has-frame : hasFrame m (recordOf m body ++ rest) ≡ true
+  unfolding hasFrame
+  record-has-frame =
       let s : List ℕ = recordOf m body ++ rest in
       let k : length s ≡ length body + frameLength + length rest = length-append (recordOf m body) rest ∙ ap (λ (i : ℕ). i + length rest) (record-length m body) in
       let room : recordLength s ≤ length s = omega (arith, record-body-length) in
       all-test _ (eq-eqb _ 0x50 (record-first m body rest), (eq-eqb _ m (record-second m body rest), (le-leb (recordLength s) (length s) room, tt)))
 
-  pub record-fixed : fixed m (length body) (recordOf m body ++ rest) ≡ true
-  record-fixed = simp (record-framed, record-body-length, eq-eqb (length body) (length body) refl)
+  pub record-has-frame-of-length : hasFrameOfLength m (length body) (recordOf m body ++ rest) ≡ true
+  record-has-frame-of-length = simp (record-has-frame, record-body-length, eq-eqb (length body) (length body) refl)
 
   pub record-body : bodyOf (recordOf m body ++ rest) ≡ body
   unfolding bodyOf
@@ -66,16 +66,16 @@ pub record FrameHolds (m : ℕ) (s : List ℕ) : Type 0 where
   pub second : getD s 1 0 ≡ m
   pub room : recordLength s ≤ length s
 
-pub framed-fact : (m : ℕ) (s : List ℕ) → framed m s ≡ true → FrameHolds m s
-unfolding framed
-framed-fact m s h =
+pub has-frame-fact : (m : ℕ) (s : List ℕ) → hasFrame m s ≡ true → FrameHolds m s
+unfolding hasFrame
+has-frame-fact m s h =
     let (first, (second, (room, _))) = all-fact _ h in
     record { first = eqb-true _ 0x50 first; second = eqb-true _ m second; room = leb-true _ (length s) room }
 
-pub fixed-fact : (m n : ℕ) (s : List ℕ) → fixed m n s ≡ true → FrameHolds m s × (bodyLength s ≡ n)
-fixed-fact m n s h =
-    let p = and-fact (framed m s) (eqb (bodyLength s) n) h in
-    (framed-fact m s (p .0), eqb-true (bodyLength s) n (p .1))
+pub has-frame-of-length-fact : (m n : ℕ) (s : List ℕ) → hasFrameOfLength m n s ≡ true → FrameHolds m s × (bodyLength s ≡ n)
+has-frame-of-length-fact m n s h =
+    let p = and-fact (hasFrame m s) (eqb (bodyLength s) n) h in
+    (has-frame-fact m s (p .0), eqb-true (bodyLength s) n (p .1))
 
 module _ (m : ℕ) (s : List ℕ) (f : FrameHolds m s) where
   pub frame-body-length : length (bodyOf s) ≡ bodyLength s

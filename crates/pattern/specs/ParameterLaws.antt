@@ -12,7 +12,7 @@ use Rattle.common.specs.TestLaws.{Within, within-fact, all-fact}
 use Rattle.slices.specs.NumberLaws.{u16-back, u16-again}
 use Rattle.slices.specs.PieceLaws.{parts-concat, part-tabulated}
 use Rattle.slices.specs.Slices.{Bytes, concat}
-use Rattle.pattern.specs.Parameters.{inRange, parametersLength, formOf, parametersBytes, parametersAt}
+use Rattle.pattern.specs.Parameters.{inRange, parametersLength, formOf, parametersBytes, parametersFromBytes}
 use Rattle.pattern.specs.declared.parameters.Parameters.{Parameters}
 
 pub record InRange (v : Parameters) : Type 0 where
@@ -30,8 +30,8 @@ pub parameters-length : (v : Parameters) → length (parametersBytes v) ≡ para
 unfolding parametersBytes
 parameters-length v = refl
 
-pub parameters-back : (v : Parameters) → parametersAt (parametersBytes v) ≡ v
-unfolding parametersAt parametersBytes
+pub parameters-back : (v : Parameters) → parametersFromBytes (parametersBytes v) ≡ v
+unfolding parametersFromBytes parametersBytes
 parameters-back v =
     λ j.
     record {
@@ -45,8 +45,8 @@ parameters-back v =
       quantum = v .quantum;
     }
 
-pub parameters-again : (form : ℕ) (l : List ℕ) → length l ≡ parametersLength form → Bytes l → parametersBytes (parametersAt l) ≡ l
-unfolding parametersAt parametersBytes
+pub parameters-again : (form : ℕ) (l : List ℕ) → length l ≡ parametersLength form → Bytes l → parametersBytes (parametersFromBytes l) ≡ l
+unfolding parametersFromBytes parametersBytes
 parameters-again form l size small =
     (λ j.
     concat (

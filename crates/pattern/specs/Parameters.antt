@@ -5,7 +5,7 @@ use mathlib.Core.List.{List, [], _∷_}
 use lib.Dec.{ltb}
 use lib.ListN.{getD}
 use Rattle.common.specs.Layout.{layoutSound}
-use Rattle.common.specs.Ranges.{within}
+use Rattle.common.specs.Ranges.{isWithin}
 use Rattle.common.specs.Tests.{all}
 use Rattle.slices.specs.Numbers.{u16Bytes, u16At}
 use Rattle.slices.specs.Slices.{concat}
@@ -13,11 +13,11 @@ use Rattle.pattern.specs.declared.parameters.Parameters.{Parameters}
 
 -- a sound layout; start below the window size; quantum 1 to 255
 unfoldable pub inRange : Parameters → Bool
-inRange v = all (layoutSound (v .layout) ∷ ltb (v .start .0) (v .layout .window) ∷ within (v .quantum) 255 ∷ [])
+inRange p = all (layoutSound (p .layout) ∷ ltb (p .start .0) (p .layout .window) ∷ isWithin (p .quantum) 255 ∷ [])
 
 -- the form of a pattern's file
 abbrev pub formOf : Parameters → ℕ
-formOf v = 1
+formOf p = 1
 
 -- the length of the body of `PB` in a file of that form
 abbrev pub parametersLength : ℕ → ℕ
@@ -25,19 +25,19 @@ parametersLength form = 9
 
 -- the body of `PB` for those parameters
 unfoldable pub parametersBytes : Parameters → List ℕ
-parametersBytes v =
+parametersBytes p =
     concat (
-    u16Bytes (v .layout .window)
-    ∷ u16Bytes (v .layout .input)
-    ∷ u16Bytes (v .layout .output)
-    ∷ u16Bytes (v .start .0)
-    ∷ (v .quantum ∷ [])
+    u16Bytes (p .layout .window)
+    ∷ u16Bytes (p .layout .input)
+    ∷ u16Bytes (p .layout .output)
+    ∷ u16Bytes (p .start .0)
+    ∷ (p .quantum ∷ [])
     ∷ []
     )
 
 -- the parameters that such a body holds
-unfoldable pub parametersAt : List ℕ → Parameters
-parametersAt body =
+unfoldable pub parametersFromBytes : List ℕ → Parameters
+parametersFromBytes body =
     record {
       layout = record { window = u16At body 0; input = u16At body 2; output = u16At body 4 };
       start = record { 0 = u16At body 6 };

@@ -6,8 +6,8 @@ use mathlib.Core.Path.{_≡_}
 use lib.ListN.{length, getD}
 use lib.Dec.{ltb, eqb}
 use Rattle.common.specs.Refusals.{Condition, _gives_, unless}
-use Rattle.pattern.specs.Parameters.{inRange, parametersLength, parametersAt}
-use Rattle.pattern.specs.Frame.{frameLength, bodyLength, bodyOf, recordLength, afterRecord, framed, fixed}
+use Rattle.pattern.specs.Parameters.{inRange, parametersLength, parametersFromBytes}
+use Rattle.pattern.specs.Frame.{frameLength, bodyLength, bodyOf, recordLength, afterRecord, hasFrame, hasFrameOfLength}
 use Rattle.pattern.specs.Image.{padded, endsInZero}
 use Rattle.pattern.specs.declared.parameters.Parameters.{Parameters}
 use Rattle.pattern.specs.declared.reader.ReadResult.{ReadResult}
@@ -35,7 +35,7 @@ boardIn s = getD (bodyOf s) 1 0
 
 -- the parameters in the body of `PB` at the front of s, in a file of that form
 abbrev pub parametersIn : ℕ → List ℕ → Parameters
-parametersIn form s = parametersAt (bodyOf s)
+parametersIn form s = parametersFromBytes (bodyOf s)
 
 -- before `PB` is read there are no parameters
 abbrev pub noParameters : Parameters
@@ -49,7 +49,7 @@ versionLength = 2
 -- `PV` (50h 56h): form 1, board 1
 unfoldable pub versionConditions : List ℕ → List Condition
 versionConditions s =
-    not (fixed 0x56 versionLength s) gives 6
+    not (hasFrameOfLength 0x56 versionLength s) gives 6
     ∷ not (eqb (formIn s) 1) gives 7
     ∷ not (eqb (boardIn s) 1) gives 8
     ∷ []
@@ -57,29 +57,29 @@ versionConditions s =
 -- `PB` (50h 42h): the parameters
 unfoldable pub parametersConditions : ℕ → List ℕ → List Condition
 parametersConditions form s =
-    not (fixed 0x42 (parametersLength form) s) gives 6
+    not (hasFrameOfLength 0x42 (parametersLength form) s) gives 6
     ∷ not (inRange (parametersIn form s)) gives 9
     ∷ []
 
 -- `PC` (50h 43h): at most the window size; empty, or its last byte not zero
 unfoldable pub codeConditions : Parameters → List ℕ → List Condition
-codeConditions v s =
-    not (framed 0x43 s) gives 6
-    ∷ ltb (v .layout .window) (bodyLength s) gives 10
+codeConditions p s =
+    not (hasFrame 0x43 s) gives 6
+    ∷ ltb (p .layout .window) (bodyLength s) gives 10
     ∷ endsInZero (bodyOf s) gives 10
     ∷ []
 
 -- `PI` (50h 49h): at most the input capacity
 unfoldable pub inputConditions : Parameters → List ℕ → List Condition
-inputConditions v s =
-    not (framed 0x49 s) gives 6
-    ∷ ltb (v .layout .input) (bodyLength s) gives 11
+inputConditions p s =
+    not (hasFrame 0x49 s) gives 6
+    ∷ ltb (p .layout .input) (bodyLength s) gives 11
     ∷ []
 
 -- `PE` (50h 45h): no byte, and the file ends
 unfoldable pub endConditions : List ℕ → List Condition
 endConditions s =
-    not (fixed 0x45 0 s) gives 6
+    not (hasFrameOfLength 0x45 0 s) gives 6
     ∷ ltb frameLength (length s) gives 6
     ∷ []
 
@@ -98,12 +98,12 @@ readOf s =
 
 -- the number of a refusal, 0 where there is none
 abbrev pub readRefusal : ReadResult → ℕ
-readRefusal (Accepted v) = 0
+readRefusal (Accepted p) = 0
 readRefusal (Refused n) = n
 
 -- that body if the file is accepted, else an empty one
 abbrev pub ifAccepted : ReadResult → List ℕ → List ℕ
-ifAccepted (Accepted v) body = body
+ifAccepted (Accepted p) body = body
 ifAccepted (Refused n) body = []
 
 -- the bodies of `PC` and of `PI`
@@ -125,7 +125,7 @@ abbrev pub imageOf : List ℕ → List ℕ
 imageOf s = padded (parametersOf s .layout .window) (codeOf s)
 
 -- s is accepted, and it is a file of the pattern of those parameters, window and first input
-pub record IsFile (s : List ℕ) (v : Parameters) (image input : List ℕ) : Type 0 where
-  pub parameters : readOf s ≡ Accepted v
+pub record IsFile (s : List ℕ) (p : Parameters) (image input : List ℕ) : Type 0 where
+  pub parameters : readOf s ≡ Accepted p
   pub window : imageOf s ≡ image
-  pub first : inputOf s ≡ input
+  pub first-input : inputOf s ≡ input

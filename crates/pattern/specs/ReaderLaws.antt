@@ -10,22 +10,23 @@ use lib.Seq.{drop-drop}
 use lib.Dec.{eqb}
 use borrow.Author.Tests.{eqb-true, ltb-false, not-false}
 use Rattle.pattern.specs.Parameters.{inRange, parametersLength}
-use Rattle.pattern.specs.Frame.{frameLength, bodyLength, bodyOf, recordLength, afterRecord, framed, fixed}
+use Rattle.pattern.specs.Frame.{frameLength, bodyLength, bodyOf, recordLength, afterRecord, hasFrame, hasFrameOfLength}
 use Rattle.pattern.specs.Image.{endsInZero}
 use Rattle.pattern.specs.Reader.{fromParameters, fromCode, fromInput, fromEnd, formIn, boardIn, parametersIn, parametersOf, versionLength, versionConditions, parametersConditions, codeConditions, inputConditions, endConditions, readOf, readRefusal, ifAccepted, codeOf, inputOf, codeOffset, inputOffset}
 use Rattle.common.specs.Refusals.{Condition, unless}
 use Rattle.common.specs.RefusalLaws.{NoneHolds, Numbered, none-unless, unless-none}
 use Rattle.slices.specs.Slices.{partOf}
 use Rattle.pattern.specs.ParameterLaws.{InRange, range-fact}
-use Rattle.pattern.specs.FrameLaws.{FrameHolds, framed-fact, fixed-fact, frame-body-length}
+use Rattle.pattern.specs.FrameLaws.{FrameHolds, has-frame-fact, has-frame-of-length-fact, frame-body-length}
 use Rattle.pattern.specs.declared.parameters.Parameters.{Parameters}
 use Rattle.pattern.specs.declared.reader.ReadResult.{ReadResult}
 use Rattle.pattern.specs.declared.reader.ReadResult.the-variants.{Accepted, Refused}
+use Rattle.common.specs.RefusalDefinitions.{condition-definitions}
 
 -- a file is accepted exactly if no condition of any record holds; the answer is then the parameters in it
 pub record NoneRefuses (s : List ℕ) (v : Parameters) : Type 0 where
   pub version : NoneHolds (versionConditions s)
-  pub partition : NoneHolds (parametersConditions (formIn s) (fromParameters s))
+  pub parameters : NoneHolds (parametersConditions (formIn s) (fromParameters s))
   pub code : NoneHolds (codeConditions (parametersOf s) (fromCode s))
   pub input : NoneHolds (inputConditions (parametersOf s) (fromInput s))
   pub end : NoneHolds (endConditions (fromEnd s))
@@ -45,13 +46,13 @@ accepted-fact s v h =
     let c = unless-none Refused (codeConditions (parametersOf s) (fromCode s)) _ refused-accepted (b .1) in
     let d = unless-none Refused (inputConditions (parametersOf s) (fromInput s)) _ refused-accepted (c .1) in
     let e = unless-none Refused (endConditions (fromEnd s)) _ refused-accepted (d .1) in
-    record { version = a .0; partition = b .0; code = c .0; input = d .0; end = e .0; same = accepted-same (e .1) }
+    record { version = a .0; parameters = b .0; code = c .0; input = d .0; end = e .0; same = accepted-same (e .1) }
 
 pub accepted-test : (s : List ℕ) (v : Parameters) → NoneRefuses s v → readOf s ≡ Accepted v
 unfolding readOf
 accepted-test s v p =
     none-unless Refused (versionConditions s) _ (p .version)
-    ∙ none-unless Refused (parametersConditions (formIn s) (fromParameters s)) _ (p .partition)
+    ∙ none-unless Refused (parametersConditions (formIn s) (fromParameters s)) _ (p .parameters)
     ∙ none-unless Refused (codeConditions (parametersOf s) (fromCode s)) _ (p .code)
     ∙ none-unless Refused (inputConditions (parametersOf s) (fromInput s)) _ (p .input)
     ∙ none-unless Refused (endConditions (fromEnd s)) _ (p .end)
@@ -67,7 +68,7 @@ pub record VersionRecord (s : List ℕ) : Type 0 where
 pub version-record : (s : List ℕ) → NoneHolds (versionConditions s) → VersionRecord s
 unfolding versionConditions
 version-record s h =
-    let f = fixed-fact 0x56 versionLength s (not-false (fixed 0x56 versionLength s) (h .0)) in
+    let f = has-frame-of-length-fact 0x56 versionLength s (not-false (hasFrameOfLength 0x56 versionLength s) (h .0)) in
     record {
       frame = f .0;
       size = f .1;
@@ -83,7 +84,7 @@ pub record ParametersRecord (form : ℕ) (s : List ℕ) : Type 0 where
 pub parameters-record : (form : ℕ) (s : List ℕ) → NoneHolds (parametersConditions form s) → ParametersRecord form s
 unfolding parametersConditions
 parameters-record form s h =
-    let f = fixed-fact 0x42 (parametersLength form) s (not-false (fixed 0x42 (parametersLength form) s) (h .0)) in
+    let f = has-frame-of-length-fact 0x42 (parametersLength form) s (not-false (hasFrameOfLength 0x42 (parametersLength form) s) (h .0)) in
     record { frame = f .0; size = f .1; range = not-false (inRange (parametersIn form s)) (h .1 .0) }
 
 pub record CodeRecord (v : Parameters) (s : List ℕ) : Type 0 where
@@ -95,7 +96,7 @@ pub code-record : (v : Parameters) (s : List ℕ) → NoneHolds (codeConditions 
 unfolding codeConditions
 code-record v s h =
     record {
-      frame = framed-fact 0x43 s (not-false (framed 0x43 s) (h .0));
+      frame = has-frame-fact 0x43 s (not-false (hasFrame 0x43 s) (h .0));
       small = ltb-false (v .layout .window) (bodyLength s) (h .1 .0);
       ends = h .1 .1 .0;
     }
@@ -107,7 +108,7 @@ pub record InputRecord (v : Parameters) (s : List ℕ) : Type 0 where
 pub input-record : (v : Parameters) (s : List ℕ) → NoneHolds (inputConditions v s) → InputRecord v s
 unfolding inputConditions
 input-record v s h =
-    record { frame = framed-fact 0x49 s (not-false (framed 0x49 s) (h .0)); small = ltb-false (v .layout .input) (bodyLength s) (h .1 .0) }
+    record { frame = has-frame-fact 0x49 s (not-false (hasFrame 0x49 s) (h .0)); small = ltb-false (v .layout .input) (bodyLength s) (h .1 .0) }
 
 pub record EndRecord (s : List ℕ) : Type 0 where
   pub frame : FrameHolds 0x45 s
@@ -117,7 +118,7 @@ pub record EndRecord (s : List ℕ) : Type 0 where
 pub end-record : (s : List ℕ) → NoneHolds (endConditions s) → EndRecord s
 unfolding endConditions
 end-record s h =
-    let f = fixed-fact 0x45 0 s (not-false (fixed 0x45 0 s) (h .0)) in
+    let f = has-frame-of-length-fact 0x45 0 s (not-false (hasFrameOfLength 0x45 0 s) (h .0)) in
     let last : length s ≤ frameLength = ltb-false frameLength (length s) (h .1 .0) in
     let room : recordLength s ≤ length s = f .0 .room in
     record { frame = f .0; size = f .1; ends = omega arith }
@@ -125,7 +126,7 @@ end-record s h =
 -- the whole of an accepted file
 pub record AcceptedFile (s : List ℕ) (v : Parameters) : Type 0 where
   pub version : VersionRecord s
-  pub partition : ParametersRecord (formIn s) (fromParameters s)
+  pub parameters : ParametersRecord (formIn s) (fromParameters s)
   pub code : CodeRecord (parametersOf s) (fromCode s)
   pub input : InputRecord (parametersOf s) (fromInput s)
   pub end : EndRecord (fromEnd s)
@@ -136,7 +137,7 @@ accepted-file s v h =
     let p = accepted-fact s v h in
     record {
       version = version-record s (p .version);
-      partition = parameters-record (formIn s) (fromParameters s) (p .partition);
+      parameters = parameters-record (formIn s) (fromParameters s) (p .parameters);
       code = code-record (parametersOf s) (fromCode s) (p .code);
       input = input-record (parametersOf s) (fromInput s) (p .input);
       end = end-record (fromEnd s) (p .end);
@@ -146,7 +147,7 @@ accepted-file s v h =
 -- for callers that put an accepted file to use: its parameters are in range, and its bodies fit them
 module _ (s : List ℕ) (v : Parameters) (accepted : readOf s ≡ Accepted v) where
   pub read-in-range : inRange v ≡ true
-  read-in-range = let f = accepted-file s v accepted in subst (λ (w : Parameters). inRange w ≡ true) (f .same) (f .partition .range)
+  read-in-range = let f = accepted-file s v accepted in subst (λ (w : Parameters). inRange w ≡ true) (f .same) (f .parameters .range)
 
   pub read-ranges : InRange v
   read-ranges = range-fact v read-in-range
@@ -206,7 +207,7 @@ module _ (s : List ℕ) (v : Parameters) (accepted : readOf s ≡ Accepted v) wh
   pub code-offset-is : codeOffset s ≡ frameLength + versionLength + frameLength + parametersLength (formIn s) + frameLength
   code-offset-is =
       let f = accepted-file s v accepted in
-      omega (arith, f .version .size, f .partition .size)
+      omega (arith, f .version .size, f .parameters .size)
 
   pub input-offset-is : inputOffset s ≡ codeOffset s + length (codeOf s) + frameLength
   input-offset-is = omega (arith, code-length)
@@ -216,7 +217,7 @@ module _ (s : List ℕ) (v : Parameters) (accepted : readOf s ≡ Accepted v) wh
 
 -- a refusal's number is never 0: where reading gives none, the file is accepted
 unless-zero : (ks : List Condition) (a : ReadResult) → Numbered ks → readRefusal (unless Refused ks a) ≡ 0 → (unless Refused ks a ≡ a) × (readRefusal a ≡ 0)
-unfolding unless if_then_else_
+unfolding condition-definitions
 unless-zero [] a n e = (refl, e)
 unless-zero (k ∷ ks) a n e = go (k .holds) refl e (unless-zero ks a (n .1))
   where

@@ -9,13 +9,13 @@ use borrow.Author.Tests.{le-ltb}
 use Rattle.slices.specs.PieceLaws.{list-tabulated}
 use Rattle.slices.specs.Slices.{Bytes}
 use Rattle.common.specs.RefusalLaws.{NoneHolds}
-use Rattle.pattern.specs.Parameters.{inRange, parametersBytes, parametersAt}
-use Rattle.pattern.specs.Frame.{frameLength, recordOf, bodyLength, bodyOf, recordLength, afterRecord, fixed}
+use Rattle.pattern.specs.Parameters.{inRange, parametersBytes, parametersFromBytes}
+use Rattle.pattern.specs.Frame.{frameLength, recordOf, bodyLength, bodyOf, recordLength, afterRecord, hasFrameOfLength}
 use Rattle.pattern.specs.Image.{endsInZero}
 use Rattle.pattern.specs.Reader.{fromParameters, fromCode, fromInput, fromEnd, formIn, parametersIn, parametersOf, versionLength, versionConditions, parametersConditions, codeConditions, inputConditions, endConditions, readOf, codeOf, inputOf}
 use Rattle.pattern.specs.Writer.{versionBody, recordsOf}
 use Rattle.pattern.specs.ParameterLaws.{parameters-length, parameters-back, parameters-again}
-use Rattle.pattern.specs.FrameLaws.{record-length, record-body-length, record-framed, record-fixed, record-body, record-rest, frame-body-length, bytes-after-record, bytes-of-body, frame-split}
+use Rattle.pattern.specs.FrameLaws.{record-length, record-body-length, record-has-frame, record-has-frame-of-length, record-body, record-rest, frame-body-length, bytes-after-record, bytes-of-body, frame-split}
 use Rattle.pattern.specs.ReaderLaws.{NoneRefuses, accepted-test, VersionRecord, ParametersRecord, EndRecord, AcceptedFile, accepted-file, code-body-is, input-body-is}
 use Rattle.pattern.specs.declared.parameters.Parameters.{Parameters}
 use Rattle.pattern.specs.declared.reader.ReadResult.the-variants.{Accepted}
@@ -24,38 +24,38 @@ use Rattle.pattern.specs.declared.reader.ReadResult.the-variants.{Accept
 
 -- the parameters come back
 parameters-read : (form : ℕ) (v : Parameters) (rest : List ℕ) → parametersIn form (recordOf 0x42 (parametersBytes v) ++ rest) ≡ v
-parameters-read form v rest = ap parametersAt (record-body 0x42 (parametersBytes v) rest) ∙ parameters-back v
+parameters-read form v rest = ap parametersFromBytes (record-body 0x42 (parametersBytes v) rest) ∙ parameters-back v
 
 -- no condition holds of a record that was written
 version-none : (v : Parameters) (rest : List ℕ) → NoneHolds (versionConditions (recordOf 0x56 (versionBody v) ++ rest))
 unfolding versionConditions
 version-none v rest =
     let body : bodyOf (recordOf 0x56 (versionBody v) ++ rest) ≡ versionBody v = record-body 0x56 (versionBody v) rest in
-    (ap not (record-fixed 0x56 (versionBody v) rest), (simp body, (simp body, tt)))
+    (ap not (record-has-frame-of-length 0x56 (versionBody v) rest), (simp body, (simp body, tt)))
 
 parameters-none : (form : ℕ) (v : Parameters) (rest : List ℕ) → inRange v ≡ true → NoneHolds (parametersConditions form (recordOf 0x42 (parametersBytes v) ++ rest))
 unfolding parametersConditions
 parameters-none form v rest range =
-    let whole = ap (λ (n : ℕ). not (fixed 0x42 n (recordOf 0x42 (parametersBytes v) ++ rest))) (sym (parameters-length v)) in
-    (whole ∙ ap not (record-fixed 0x42 (parametersBytes v) rest), (simp (parameters-read form v rest, range), tt))
+    let whole = ap (λ (n : ℕ). not (hasFrameOfLength 0x42 n (recordOf 0x42 (parametersBytes v) ++ rest))) (sym (parameters-length v)) in
+    (whole ∙ ap not (record-has-frame-of-length 0x42 (parametersBytes v) rest), (simp (parameters-read form v rest, range), tt))
 
 code-none : (v : Parameters) (code rest : List ℕ) → length code ≤ v .layout .window → endsInZero code ≡ false
     → NoneHolds (codeConditions v (recordOf 0x43 code ++ rest))
 unfolding codeConditions
 code-none v code rest small ends = (
-  ap not (record-framed 0x43 code rest),
+  ap not (record-has-frame 0x43 code rest),
   (simp (record-body-length 0x43 code rest) (le-ltb (v .layout .window) (length code) small), (simp (record-body 0x43 code rest) ends, tt)),
 )
 
 input-none : (v : Parameters) (input rest : List ℕ) → length input ≤ v .layout .input → NoneHolds (inputConditions v (recordOf 0x49 input ++ rest))
 unfolding inputConditions
 input-none v input rest few =
-    (ap not (record-framed 0x49 input rest), (simp (record-body-length 0x49 input rest) (le-ltb (v .layout .input) (length input) few), tt))
+    (ap not (record-has-frame 0x49 input rest), (simp (record-body-length 0x49 input rest) (le-ltb (v .layout .input) (length input) few), tt))
 
 end-none : NoneHolds (endConditions (recordOf 0x45 [] ++ []))
 unfolding endConditions
 end-none =
-    (ap not (record-fixed 0x45 [] []), (le-ltb frameLength (length (recordOf 0x45 [] ++ [])) (simp (length-append, record-length) (omega arith)), tt))
+    (ap not (record-has-frame-of-length 0x45 [] []), (le-ltb frameLength (length (recordOf 0x45 [] ++ [])) (simp (length-append, record-length) (omega arith)), tt))
 
 module _ (v : Parameters) (code input : List ℕ) (range : inRange v ≡ true) (small : length code ≤ v .layout .window) (ends : endsInZero code ≡ false) (few : length input ≤ v .layout .input) where
   abbrev writtenFile : List ℕ
@@ -82,7 +82,7 @@ module _ (v : Parameters) (code input : List ℕ) (range : inRange v ≡ true) (
   file-accepted =
       record {
         version = version-none v _;
-        partition = subst⁻¹ (λ (s : List ℕ). NoneHolds (parametersConditions (formIn writtenFile) s)) from-parameters (parameters-none (formIn writtenFile) v _ range);
+        parameters = subst⁻¹ (λ (s : List ℕ). NoneHolds (parametersConditions (formIn writtenFile) s)) from-parameters (parameters-none (formIn writtenFile) v _ range);
         code = subst⁻¹ (λ (w : Parameters). NoneHolds (codeConditions w (fromCode writtenFile))) parameters-of (subst⁻¹ (λ (s : List ℕ). NoneHolds (codeConditions v s)) from-code (code-none v code _ small ends));
         input = subst⁻¹ (λ (w : Parameters). NoneHolds (inputConditions w (fromInput writtenFile))) parameters-of (subst⁻¹ (λ (s : List ℕ). NoneHolds (inputConditions v s)) from-input (input-none v input _ few));
         end = subst⁻¹ (λ (s : List ℕ). NoneHolds (endConditions s)) from-end end-none;
@@ -147,10 +147,10 @@ module _ (s : List ℕ) (v : Parameters) (bytes : Bytes s) (accepted : readOf s 
 
   parameters-part : fromParameters s ≡ recordOf 0x42 (parametersBytes v) ++ (recordOf 0x43 (codeOf s) ++ (recordOf 0x49 (inputOf s) ++ (recordOf 0x45 [] ++ [])))
   parameters-part =
-      frame-split 0x42 (fromParameters s) parameters-are-bytes (asAccepted .partition .frame)
+      frame-split 0x42 (fromParameters s) parameters-are-bytes (asAccepted .parameters .frame)
       ∙ ap (λ (l : List ℕ). recordOf 0x42 (bodyOf (fromParameters s)) ++ l) code-part
       ∙ ap (λ (l : List ℕ). recordOf 0x42 l ++ (recordOf 0x43 (codeOf s) ++ (recordOf 0x49 (inputOf s) ++ (recordOf 0x45 [] ++ []))))
-      (parameters-body (formIn s) (fromParameters s) parameters-are-bytes (asAccepted .partition) ∙ ap parametersBytes (asAccepted .same))
+      (parameters-body (formIn s) (fromParameters s) parameters-are-bytes (asAccepted .parameters) ∙ ap parametersBytes (asAccepted .same))
 
   pub records-again : recordsOf v (codeOf s) (inputOf s) ≡ s
   unfolding recordsOf

@@ -23,14 +23,14 @@ use Rattle.pattern.specs.declared.writer.WriteResult.the-variants.{Lengt
 
 -- a pattern that can be written: its parameters are in range, the image fills the window, the input fits
 module _ (v : Parameters) (image input : List ℕ) (range : inRange v ≡ true) (whole : length image ≡ v .layout .window) (few : length input ≤ v .layout .input) where
-  short : length (trim image) ≤ v .layout .window
-  short = omega (arith, trim-short image)
+  trimmed-fits : length (trim image) ≤ v .layout .window
+  trimmed-fits = omega (arith, trim-short image)
 
   file-code : codeOf (fileOf v image input) ≡ trim image
-  file-code = code-of-records v (trim image) input range short (trim-ends image) few
+  file-code = code-of-records v (trim image) input range trimmed-fits (trim-ends image) few
 
   file-parameters : readOf (fileOf v image input) ≡ Accepted v
-  file-parameters = read-records v (trim image) input range short (trim-ends image) few
+  file-parameters = read-records v (trim image) input range trimmed-fits (trim-ends image) few
 
   -- its file is accepted, and has its parameters, its window and its input
   pub file-is-file : IsFile (fileOf v image input) v image input
@@ -42,7 +42,7 @@ module _ (v : Parameters) (image input : List ℕ) (range : inRange v ≡ true) 
             ∙ ap (padded (v .layout .window)) file-code
             ∙ ap (λ (n : ℕ). padded n (trim image)) (sym whole)
             ∙ padded-trim image;
-        first = input-of-records v (trim image) input range short (trim-ends image) few;
+        first-input = input-of-records v (trim image) input range trimmed-fits (trim-ends image) few;
       }
 
 -- reading what was written gives the same parameters, code and input: the first n bytes of the buffer, where writing answered the length n
@@ -105,8 +105,8 @@ one-file s t v image input bs bt hs ht =
     let es : fileOf v (imageOf s) (inputOf s) ≡ s = file-again s v bs (hs .parameters) in
     let et : fileOf v (imageOf t) (inputOf t) ≡ t = file-again t v bt (ht .parameters) in
     let window : imageOf s ≡ imageOf t = hs .window ∙ sym (ht .window) in
-    let first : inputOf s ≡ inputOf t = hs .first ∙ sym (ht .first) in
-    sym es ∙ ap (λ (x : List ℕ). fileOf v x (inputOf s)) window ∙ ap (fileOf v (imageOf t)) first ∙ et
+    let first-input : inputOf s ≡ inputOf t = hs .first-input ∙ sym (ht .first-input) in
+    sym es ∙ ap (λ (x : List ℕ). fileOf v x (inputOf s)) window ∙ ap (fileOf v (imageOf t)) first-input ∙ et
 
 -- both bounds are reached: by a window of zeros without input, and by the largest window, with no zero in it, and the largest input
 pub smallest-reached : (v : Parameters) → inRange v ≡ true

@@ -16,14 +16,14 @@ use Rattle.pattern.specs.declared.writer.WriteResult.the-variants.{Lengt
 
 -- the body of `PV`: form and board
 abbrev pub versionBody : Parameters → List ℕ
-versionBody v = formOf v ∷ 1 ∷ []
+versionBody p = formOf p ∷ 1 ∷ []
 
 -- the five records, with these bodies of `PC` and `PI`
 unfoldable pub recordsOf : Parameters → List ℕ → List ℕ → List ℕ
-recordsOf v code input =
+recordsOf p code input =
     concat (
-    recordOf 0x56 (versionBody v)
-    ∷ recordOf 0x42 (parametersBytes v)
+    recordOf 0x56 (versionBody p)
+    ∷ recordOf 0x42 (parametersBytes p)
     ∷ recordOf 0x43 code
     ∷ recordOf 0x49 input
     ∷ recordOf 0x45 []
@@ -36,20 +36,20 @@ smallestLength form = 5 * frameLength + versionLength + parametersLength form
 
 -- the file of the pattern of those parameters, window and first input
 abbrev pub fileOf : Parameters → List ℕ → List ℕ → List ℕ
-fileOf v image input = recordsOf v (trim image) input
+fileOf p image input = recordsOf p (trim image) input
 
 -- what refuses the writing into a buffer of that length, in order
 unfoldable pub writeConditions : Parameters → List ℕ → List ℕ → ℕ → List Condition
-writeConditions v image input room =
-    not (inRange v) gives 9
-    ∷ not (eqb (length image) (v .layout .window)) gives 9
-    ∷ ltb (v .layout .input) (length input) gives 11
-    ∷ ltb room (length (fileOf v image input)) gives 16
+writeConditions p image input room =
+    not (inRange p) gives 9
+    ∷ not (eqb (length image) (p .layout .window)) gives 9
+    ∷ ltb (p .layout .input) (length input) gives 11
+    ∷ ltb room (length (fileOf p image input)) gives 16
     ∷ []
 
 -- what writing answers: the file's length, or the refusal
 unfoldable pub writeOf : Parameters → List ℕ → List ℕ → ℕ → WriteResult
-writeOf v image input room = unless Refused (writeConditions v image input room) (Length (length (fileOf v image input)))
+writeOf p image input room = unless Refused (writeConditions p image input room) (Length (length (fileOf p image input)))
 
 -- the number of a refusal, 0 where there is none
 abbrev pub writeRefusal : WriteResult → ℕ
@@ -63,4 +63,4 @@ bufferAfter (Refused n) file d = d
 
 -- what the buffer d holds after the writing
 abbrev pub writtenBuffer : Parameters → List ℕ → List ℕ → List ℕ → List ℕ
-writtenBuffer v image input d = bufferAfter (writeOf v image input (length d)) (fileOf v image input) d
+writtenBuffer p image input d = bufferAfter (writeOf p image input (length d)) (fileOf p image input) d

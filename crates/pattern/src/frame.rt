@@ -9,7 +9,7 @@ ghost use mathlib.Core.Path.{_≡_};
 ghost use Prim.Native.Nat.{_+_, _≤_, _<_};
 ghost use lib.ListN.{length};
 ghost use Rattle.slices.specs.Slices.{copied};
-ghost use Rattle.pattern.specs.Frame.{frameLength, recordOf, bodyLength, bodyOf, recordLength, afterRecord, framed, fixed};
+ghost use Rattle.pattern.specs.Frame.{frameLength, recordOf, bodyLength, bodyOf, recordLength, afterRecord, hasFrame, hasFrameOfLength};
 
 // What `PV` holds: the form and the board.
 pub(crate) const FORM: u8 = 1;
@@ -52,17 +52,17 @@ pub(crate) fn after_record(s: &[u8]) -> &[u8]
 }
 
 // Whether the record at the front of `s` has the mark `P` and `mark`, and its body is inside `s`.
-pub(crate) fn is_framed(s: &[u8], mark: u8) -> bool
-    ensures { λ r. ⌜ r ≡ framed mark (now (s .entry)) ⌝ }
+pub(crate) fn has_frame(s: &[u8], mark: u8) -> bool
+    ensures { λ r. ⌜ r ≡ hasFrame mark (now (s .entry)) ⌝ }
 {
     (byte(s, 0) == b'P') & (byte(s, 1) == mark) & (record_length(s) <= s.len())
 }
 
 // The same, with a body of `n` bytes.
-pub(crate) fn is_fixed(s: &[u8], mark: u8, n: usize) -> bool
-    ensures { λ r. ⌜ r ≡ fixed mark n (now (s .entry)) ⌝ }
+pub(crate) fn has_frame_of_length(s: &[u8], mark: u8, n: usize) -> bool
+    ensures { λ r. ⌜ r ≡ hasFrameOfLength mark n (now (s .entry)) ⌝ }
 {
-    is_framed(s, mark) & (body_length(s) as usize == n)
+    has_frame(s, mark) & (body_length(s) as usize == n)
 }
 
 // Writes the record of `P` and `mark` with `body` into `buffer` from `at` on, and answers where it ends.

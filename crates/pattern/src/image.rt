@@ -17,7 +17,7 @@ pub(crate) fn ends_in_zero(body: &[u8]) -> bool
 }
 
 // The length of `image` without its trailing zeros.
-fn trimmed_length(image: &[u8]) -> usize
+fn trim_length(image: &[u8]) -> usize
     ensures { λ r. ⌜ r ≡ length (trim (now (image .entry))) ⌝ }
 {
     let mut n = image.len();
@@ -32,8 +32,8 @@ fn trimmed_length(image: &[u8]) -> usize
 }
 
 // `image` without its trailing zeros.
-pub(crate) fn trimmed(image: &[u8]) -> &[u8]
+pub(crate) fn trim(image: &[u8]) -> &[u8]
     ensures { λ r. ⌜ now r ≡ trim (now (image .entry)) ⌝ }
 {
-    front(image, trimmed_length(image))
+    front(image, trim_length(image))
 }

@@ -1,6 +1,6 @@
 // The parameters of a pattern, their ranges, and how they look as bytes.
 ghost use mathlib.Core.Path.{_≡_};
-ghost use Rattle.pattern.specs.Parameters.{inRange, parametersAt, parametersBytes};
+ghost use Rattle.pattern.specs.Parameters.{inRange, parametersFromBytes, parametersBytes};
 use common::Address;
 use common::Layout;
 use slices::byte;
@@ -21,32 +21,34 @@ impl Parameters {
 }
 
 // Whether each value is in its range.
-pub(crate) fn in_range(v: Parameters) -> bool
-    ensures { λ r. ⌜ r ≡ inRange v ⌝ }
+pub(crate) fn in_range(parameters: Parameters) -> bool
+    ensures { λ r. ⌜ r ≡ inRange parameters ⌝ }
 {
-    let layout = v.layout;
-    let start = v.start;
-    layout.is_sound() & (start.0 < layout.window) & common::is_within(v.quantum as usize, 255)
+    let layout = parameters.layout;
+    let start = parameters.start;
+    layout.is_sound()
+        & (start.0 < layout.window)
+        & common::is_within(parameters.quantum as usize, 255)
 }
 
 // The body of `PB` for those parameters.
-pub fn encode_parameters(v: Parameters) -> [u8; Parameters::LENGTH]
-    ensures { λ l. ⌜ l ≡ parametersBytes v ⌝ }
+pub fn encode_parameters(parameters: Parameters) -> [u8; Parameters::LENGTH]
+    ensures { λ l. ⌜ l ≡ parametersBytes parameters ⌝ }
 {
-    let layout = v.layout;
-    let start = v.start;
+    let layout = parameters.layout;
+    let start = parameters.start;
     let mut bytes = [0u8; Parameters::LENGTH];
     put_u16(&mut bytes, 0, layout.window);
     put_u16(&mut bytes, 2, layout.input);
     put_u16(&mut bytes, 4, layout.output);
     put_u16(&mut bytes, 6, start.0);
-    put_byte(&mut bytes, 8, v.quantum);
+    put_byte(&mut bytes, 8, parameters.quantum);
     bytes
 }
 
 // The parameters that such a body holds; a byte past its end counts as 0.
 pub fn decode_parameters(body: &[u8]) -> Parameters
-    ensures { λ v. ⌜ v ≡ parametersAt (now (body .entry)) ⌝ }
+    ensures { λ p. ⌜ p ≡ parametersFromBytes (now (body .entry)) ⌝ }
 {
     let layout = Layout {
         window: u16_at(body, 0),

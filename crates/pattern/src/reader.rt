@@ -6,8 +6,8 @@ use crate::frame::VERSION_LENGTH;
 use crate::frame::after_record;
 use crate::frame::body;
 use crate::frame::body_length;
-use crate::frame::is_fixed;
-use crate::frame::is_framed;
+use crate::frame::has_frame;
+use crate::frame::has_frame_of_length;
 use crate::frame::record_length;
 use crate::image::ends_in_zero;
 use crate::parameters::Parameters;
@@ -35,7 +35,7 @@ impl ReadResult {
     {
         match self {
             ReadResult::Accepted(_) => 0,
-            ReadResult::Refused(number) => number,
+            ReadResult::Refused(refusal) => refusal,
         }
     }
 }
@@ -44,7 +44,7 @@ impl ReadResult {
 fn read_version(s: &[u8]) -> ReadResult
     ensures { λ r. ⌜ r ≡ unless ReadResult.Refused (versionConditions (now (s .entry))) (ReadResult.Accepted noParameters) ⌝ }
 {
-    if !is_fixed(s, b'V', VERSION_LENGTH) {
+    if !has_frame_of_length(s, b'V', VERSION_LENGTH) {
         return ReadResult::Refused(6);
     }
     let named = body(s);
@@ -70,7 +70,7 @@ fn read_version(s: &[u8]) -> ReadResult
 fn read_parameters(s: &[u8]) -> ReadResult
     ensures { λ r. ⌜ r ≡ unless ReadResult.Refused (parametersConditions 1 (now (s .entry))) (ReadResult.Accepted (parametersIn 1 (now (s .entry)))) ⌝ }
 {
-    if !is_fixed(s, b'B', Parameters::LENGTH) {
+    if !has_frame_of_length(s, b'B', Parameters::LENGTH) {
         return ReadResult::Refused(6);
     }
     let parameters = decode_parameters(body(s));
@@ -84,7 +84,7 @@ fn read_parameters(s: &[u8]) -> ReadResult
 fn read_code(s: &[u8], parameters: Parameters) -> ReadResult
     ensures { λ r. ⌜ r ≡ unless ReadResult.Refused (codeConditions parameters (now (s .entry))) (ReadResult.Accepted parameters) ⌝ }
 {
-    if !is_framed(s, b'C') {
+    if !has_frame(s, b'C') {
         return ReadResult::Refused(6);
     }
     let layout = parameters.layout;
@@ -101,7 +101,7 @@ fn read_code(s: &[u8], parameters: Parameters) -> ReadResult
 fn read_input(s: &[u8], parameters: Parameters) -> ReadResult
     ensures { λ r. ⌜ r ≡ unless ReadResult.Refused (inputConditions parameters (now (s .entry))) (ReadResult.Accepted parameters) ⌝ }
 {
-    if !is_framed(s, b'I') {
+    if !has_frame(s, b'I') {
         return ReadResult::Refused(6);
     }
     let layout = parameters.layout;
@@ -115,7 +115,7 @@ fn read_input(s: &[u8], parameters: Parameters) -> ReadResult
 fn read_end(s: &[u8], parameters: Parameters) -> ReadResult
     ensures { λ r. ⌜ r ≡ unless ReadResult.Refused (endConditions (now (s .entry))) (ReadResult.Accepted parameters) ⌝ }
 {
-    if !is_fixed(s, b'E', 0) {
+    if !has_frame_of_length(s, b'E', 0) {
         return ReadResult::Refused(6);
     }
     if FRAME_LENGTH < s.len() {
@@ -132,12 +132,12 @@ pub fn read(file: &[u8]) -> ReadResult
     let ReadResult::Accepted(_) = first else {
         return first;
     };
-    let from_partition = after_record(file);
-    let second = read_parameters(from_partition);
+    let from_parameters = after_record(file);
+    let second = read_parameters(from_parameters);
     let ReadResult::Accepted(parameters) = second else {
         return second;
     };
-    let from_code = after_record(from_partition);
+    let from_code = after_record(from_parameters);
     let third = read_code(from_code, parameters);
     let ReadResult::Accepted(_) = third else {
         return third;
@@ -190,9 +190,9 @@ pub fn code_offset(file: &[u8]) -> usize
 pub fn input_offset(file: &[u8]) -> usize
     ensures { λ n. ⌜ n ≡ inputOffset (now (file .entry)) ⌝ }
 {
-    let from_partition = after_record(file);
+    let from_parameters = after_record(file);
     record_length(file)
-        + record_length(from_partition)
-        + record_length(after_record(from_partition))
+        + record_length(from_parameters)
+        + record_length(after_record(from_parameters))
         + FRAME_LENGTH
 }

@@ -4,7 +4,7 @@ use crate::frame::FORM;
 use crate::frame::FRAME_LENGTH;
 use crate::frame::VERSION_LENGTH;
 use crate::frame::put_record;
-use crate::image::trimmed;
+use crate::image::trim;
 use crate::parameters::Parameters;
 use crate::parameters::encode_parameters;
 use crate::parameters::in_range;
@@ -31,22 +31,22 @@ impl WriteResult {
     {
         match self {
             WriteResult::Length(_) => 0,
-            WriteResult::Refused(number) => number,
+            WriteResult::Refused(refusal) => refusal,
         }
     }
 }
 
 // Writes the five records to the front of `buffer`.
-fn put_records(v: Parameters, code: &[u8], input: &[u8], buffer: &mut [u8])
+fn put_records(parameters: Parameters, code: &[u8], input: &[u8], buffer: &mut [u8])
     requires { ⌜ length (now code) < 65536 ⌝ }
     requires { ⌜ length (now input) < 65536 ⌝ }
-    requires { ⌜ smallestLength (formOf v) + length (now code) + length (now input) ≤ length (now buffer) ⌝ }
-    ensures { λ _. ⌜ now (buffer .exit) ≡ copied (now (buffer .entry)) 0 (recordsOf v (now (code .entry)) (now (input .entry))) ⌝ }
+    requires { ⌜ smallestLength (formOf parameters) + length (now code) + length (now input) ≤ length (now buffer) ⌝ }
+    ensures { λ _. ⌜ now (buffer .exit) ≡ copied (now (buffer .entry)) 0 (recordsOf parameters (now (code .entry)) (now (input .entry))) ⌝ }
 {
     let version = [FORM, BOARD];
-    let partition = encode_parameters(v);
-    let from_partition = put_record(b'V', &version, buffer, 0);
-    let from_code = put_record(b'B', &partition, buffer, from_partition);
+    let bytes = encode_parameters(parameters);
+    let from_parameters = put_record(b'V', &version, buffer, 0);
+    let from_code = put_record(b'B', &bytes, buffer, from_parameters);
     let from_input = put_record(b'C', code, buffer, from_code);
     let from_end = put_record(b'I', input, buffer, from_input);
     put_record(b'E', b"", buffer, from_end);
@@ -66,7 +66,7 @@ pub fn write(parameters: Parameters, image: &[u8], input: &[u8], buffer: &mut [u
     if (layout.input as usize) < input.len() {
         return WriteResult::Refused(11);
     }
-    let code = trimmed(image);
+    let code = trim(image);
     let total = MIN_FILE + code.len() + input.len();
     if buffer.len() < total {
         return WriteResult::Refused(16);

@@ -1,6 +1,7 @@
 // The CRC-32 of zlib.
 use slices::byte;
 
+// One bit of the sum.
 fn shifted(crc: u32) -> u32 {
     if crc % 2 == 1 {
         (crc >> 1) ^ 3988292384
@@ -11,8 +12,8 @@ fn shifted(crc: u32) -> u32 {
 
 fn with_byte(crc: u32, b: u8) -> u32 {
     let mixed = crc ^ (b as u32);
-    let four = shifted(shifted(shifted(shifted(mixed))));
-    shifted(shifted(shifted(shifted(four))))
+    let half = shifted(shifted(shifted(shifted(mixed))));
+    shifted(shifted(shifted(shifted(half))))
 }
 
 pub(crate) fn crc32(s: &[u8]) -> u32 {

@@ -84,7 +84,7 @@ pub(crate) fn same_report(r: Report, want: &[u8]) -> bool {
         & same_registers(registers, rest(want, 8))
 }
 
-fn poked_layout(l: Layout, field: u16, entry: &[u8]) -> Layout {
+fn layout_with_field(l: Layout, field: u16, entry: &[u8]) -> Layout {
     let mut next = l;
     match field {
         1 => {
@@ -101,9 +101,9 @@ fn poked_layout(l: Layout, field: u16, entry: &[u8]) -> Layout {
     next
 }
 
-fn poked_partition(p: Partition, field: u16, entry: &[u8]) -> Partition {
+fn partition_with_field(p: Partition, field: u16, entry: &[u8]) -> Partition {
     let mut next = p;
-    next.layout = poked_layout(p.layout, field, entry);
+    next.layout = layout_with_field(p.layout, field, entry);
     if field == 0 {
         let base = Location(value32(entry));
         next.base = base;
@@ -131,7 +131,7 @@ fn with_return(returns: [u16; 8], i: usize, v: u16) -> [u16; 8] {
     next
 }
 
-fn poked_cpu(c: Cpu, field: u16, entry: &[u8]) -> Cpu {
+fn cpu_with_field(c: Cpu, field: u16, entry: &[u8]) -> Cpu {
     let mut next = c;
     if field == 6 {
         next.counter = value16(entry);
@@ -155,9 +155,9 @@ fn poked_cpu(c: Cpu, field: u16, entry: &[u8]) -> Cpu {
     next
 }
 
-fn poked_state(s: State, field: u16, entry: &[u8]) -> State {
+fn state_with_field(s: State, field: u16, entry: &[u8]) -> State {
     let mut next = s;
-    next.cpu = poked_cpu(s.cpu, field, entry);
+    next.cpu = cpu_with_field(s.cpu, field, entry);
     match field {
         5 => {
             next.status = value8(entry);
@@ -177,16 +177,16 @@ fn poked_state(s: State, field: u16, entry: &[u8]) -> State {
 }
 
 // The table with the entry's field set; the slot's number is below 8, but for the length of the memory.
-pub(crate) fn poked(t: Table, entry: &[u8]) -> Table {
+pub(crate) fn with_field(t: Table, entry: &[u8]) -> Table {
     let field = u16_at(entry, 12);
     let k = slot(entry);
     let mut next = t;
     if k < 8 {
         let s = t.slots[k];
         let p = s.partition;
-        let partition = poked_partition(p, field, entry);
+        let partition = partition_with_field(p, field, entry);
         let old = s.state;
-        let state = poked_state(old, field, entry);
+        let state = state_with_field(old, field, entry);
         next.slots[k] = Slot { partition, state };
     }
     if field == 27 {

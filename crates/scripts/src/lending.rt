@@ -10,6 +10,6 @@ pub(crate) fn drain_loan(slot: Slot, memory: &[u8], buffer: &mut [u8]) -> SlotAn
     ensures { λ r. ⌜ slotOutcome r (now (buffer .exit)) ≡ drainSlotOf slot (now (memory .entry)) (now (buffer .entry)) ⌝ }
 {
     let mut s = slot;
-    let taken = drain_lent(&mut s, memory, buffer);
-    SlotAnswer { taken, slot: s }
+    let drained = drain_lent(&mut s, memory, buffer);
+    SlotAnswer { drained, slot: s }
 }

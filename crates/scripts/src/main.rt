@@ -14,9 +14,9 @@ use crate::entry::number;
 use crate::entry::slot;
 use crate::entry::value16;
 use crate::entry::value32;
-use crate::fields::poked;
 use crate::fields::same_report;
 use crate::fields::same_slots;
+use crate::fields::with_field;
 use crate::lending::drain_loan;
 use common::Location;
 use libc::STDOUT_FILENO;
@@ -29,15 +29,15 @@ use supervisor::Answer;
 use supervisor::Table;
 
 // The table, the table as it was before fields were set by hand, and how much memory is lent.
-struct World {
+struct ScriptState {
     table: Table,
-    kept: Table,
-    lent: u32,
+    saved: Table,
+    lent_length: u32,
 }
 
-// The world after an entry, whether the answer is the wanted one, and the refusal, 0 for none.
-struct Done {
-    world: World,
+// The script after an entry, whether the answer is the wanted one, and the refusal, 0 for none.
+struct EntryResult {
+    script: ScriptState,
     same: bool,
     refusal: u8,
 }
@@ -50,18 +50,18 @@ struct Tally {
     different: u64,
 }
 
-fn with_table(world: World, table: Table) -> World {
-    let kept = world.kept;
-    World {
+fn with_table(script: ScriptState, table: Table) -> ScriptState {
+    let saved = script.saved;
+    ScriptState {
         table,
-        kept,
-        lent: world.lent,
+        saved,
+        lent_length: script.lent_length,
     }
 }
 
-fn unanswered(world: World, same: bool) -> Done {
-    Done {
-        world,
+fn result_without_call(script: ScriptState, same: bool) -> EntryResult {
+    EntryResult {
+        script,
         same,
         refusal: 0,
     }
@@ -72,11 +72,11 @@ fn wanted(entry: &[u8]) -> u16 {
     u16_at(entry, 6)
 }
 
-fn answered(world: World, answer: Answer, entry: &[u8]) -> Done {
+fn result_of_call(script: ScriptState, answer: Answer, entry: &[u8]) -> EntryResult {
     let refusal = answer.refusal;
     let table = answer.table;
-    Done {
-        world: with_table(world, table),
+    EntryResult {
+        script: with_table(script, table),
         same: refusal as u16 == wanted(entry),
         refusal,
     }
@@ -90,73 +90,78 @@ fn same_drained(refusal: u8, count: usize, buffer: &[u8], entry: &[u8]) -> bool 
 }
 
 // Into the front of a buffer, which is compared whole.
-fn drained_into(world: World, memory: &[u8], entry: &[u8], buffer: &mut [u8]) -> Done {
+fn drain_into(script: ScriptState, memory: &[u8], entry: &[u8], buffer: &mut [u8]) -> EntryResult {
     let n = number(entry);
     if buffer.len() < n {
-        return unanswered(world, false);
+        return result_without_call(script, false);
     }
-    let before = world.table;
+    let before = script.table;
     let answer = supervisor::drain(before, memory, slot(entry), &mut buffer[..n]);
     let refusal = answer.refusal;
     let table = answer.table;
-    Done {
-        world: with_table(world, table),
+    EntryResult {
+        script: with_table(script, table),
         same: same_drained(refusal, answer.count, buffer, entry),
         refusal,
     }
 }
 
 // The same over one slot, lent.
-fn lent_into(world: World, memory: &[u8], entry: &[u8], buffer: &mut [u8]) -> Done {
+fn drain_lent_into(
+    script: ScriptState,
+    memory: &[u8],
+    entry: &[u8],
+    buffer: &mut [u8],
+) -> EntryResult {
     let n = number(entry);
     if buffer.len() < n {
-        return unanswered(world, false);
+        return result_without_call(script, false);
     }
     let k = slot(entry);
     if Table::SLOTS <= k {
-        return unanswered(world, false);
+        return result_without_call(script, false);
     }
-    let mut table = world.table;
+    let mut table = script.table;
     let before = table.slots[k];
     let answer = drain_loan(before, memory, &mut buffer[..n]);
-    let taken = answer.taken;
+    let drained = answer.drained;
     let after = answer.slot;
     table.slots[k] = after;
-    Done {
-        world: with_table(world, table),
-        same: same_drained(taken.refusal, taken.count, buffer, entry),
-        refusal: taken.refusal,
+    EntryResult {
+        script: with_table(script, table),
+        same: same_drained(drained.refusal, drained.count, buffer, entry),
+        refusal: drained.refusal,
     }
 }
 
 // The buffer starts as EEh throughout, as the script's.
-fn drained(world: World, memory: &[u8], entry: &[u8]) -> Done {
+fn drain_entry(script: ScriptState, memory: &[u8], entry: &[u8]) -> EntryResult {
     let mut buffer = [238u8; 16];
-    drained_into(world, memory, entry, &mut buffer)
+    drain_into(script, memory, entry, &mut buffer)
 }
 
-fn drained_lent(world: World, memory: &[u8], entry: &[u8]) -> Done {
+fn drain_lent_entry(script: ScriptState, memory: &[u8], entry: &[u8]) -> EntryResult {
     let mut buffer = [238u8; 16];
-    lent_into(world, memory, entry, &mut buffer)
+    drain_lent_into(script, memory, entry, &mut buffer)
 }
 
-fn reported(world: World, entry: &[u8]) -> Done {
-    let table = world.table;
+fn report_entry(script: ScriptState, entry: &[u8]) -> EntryResult {
+    let table = script.table;
     let answer = supervisor::report(table, slot(entry));
     let refusal = answer.refusal;
     let same = (refusal as u16 == wanted(entry)) & same_report(answer, bytes(entry));
-    Done {
-        world,
+    EntryResult {
+        script,
         same,
         refusal,
     }
 }
 
 // One call, with the memory that it is lent.
-fn called(world: World, memory: &mut [u8], entry: &[u8]) -> Done {
-    let table = world.table;
+fn call_entry(script: ScriptState, memory: &mut [u8], entry: &[u8]) -> EntryResult {
+    let table = script.table;
     match kind(entry) {
-        1 => answered(world, Table::new(number(entry)), entry),
+        1 => result_of_call(script, Table::new(number(entry)), entry),
         5 => {
             let answer = supervisor::load(
                 table,
@@ -165,86 +170,86 @@ fn called(world: World, memory: &mut [u8], entry: &[u8]) -> Done {
                 Location(value32(entry)),
                 bytes(entry),
             );
-            answered(world, answer, entry)
+            result_of_call(script, answer, entry)
         }
         6 => {
             let answer = supervisor::unload(table, memory, slot(entry));
-            answered(world, answer, entry)
+            result_of_call(script, answer, entry)
         }
         7 => {
             let answer = supervisor::feed(table, memory, slot(entry), bytes(entry));
-            answered(world, answer, entry)
+            result_of_call(script, answer, entry)
         }
-        8 => drained(world, memory, entry),
+        8 => drain_entry(script, memory, entry),
         9 => {
             let answer = supervisor::run(table, memory, value16(entry));
-            answered(world, answer, entry)
+            result_of_call(script, answer, entry)
         }
-        10 => reported(world, entry),
-        12 => drained_lent(world, memory, entry),
-        _ => unanswered(world, false),
+        10 => report_entry(script, entry),
+        12 => drain_lent_entry(script, memory, entry),
+        _ => result_without_call(script, false),
     }
 }
 
 // A new script: memory and table all zero.
-fn begun(memory: &mut [u8]) -> Done {
+fn begin_script(memory: &mut [u8]) -> EntryResult {
     fill(memory, 0, 65537, 0);
     let fresh = Table::new(0);
     let table = fresh.table;
-    let world = World {
+    let script = ScriptState {
         table,
-        kept: table,
-        lent: 0,
+        saved: table,
+        lent_length: 0,
     };
-    unanswered(world, true)
+    result_without_call(script, true)
 }
 
-fn compared(world: World, memory: &[u8], entry: &[u8]) -> Done {
-    let table = world.table;
+fn compare_entry(script: ScriptState, memory: &[u8], entry: &[u8]) -> EntryResult {
+    let table = script.table;
     let same = (crc32(front(memory, 65536)) == value32(entry)) & same_slots(table, bytes(entry));
-    unanswered(world, same)
+    result_without_call(script, same)
 }
 
 // An entry that is no call: it changes the script's own values.
-fn arranged(world: World, entry: &[u8]) -> World {
-    let table = world.table;
-    let kept = world.kept;
-    let lent = world.lent;
+fn apply_setting(script: ScriptState, entry: &[u8]) -> ScriptState {
+    let table = script.table;
+    let saved = script.saved;
+    let lent_length = script.lent_length;
     match kind(entry) {
-        2 => World {
+        2 => ScriptState {
             table,
-            kept,
-            lent: value32(entry),
+            saved,
+            lent_length: value32(entry),
         },
-        3 => World {
-            table: poked(table, entry),
-            kept: table,
-            lent,
+        3 => ScriptState {
+            table: with_field(table, entry),
+            saved: table,
+            lent_length,
         },
-        _ => World {
-            table: kept,
-            kept,
-            lent,
+        _ => ScriptState {
+            table: saved,
+            saved,
+            lent_length,
         },
     }
 }
 
-fn carried_out(world: World, memory: &mut [u8], entry: &[u8]) -> Done {
+fn run_entry(script: ScriptState, memory: &mut [u8], entry: &[u8]) -> EntryResult {
     let k = kind(entry);
     if k == 0 {
-        return begun(memory);
+        return begin_script(memory);
     }
     if k == 11 {
-        return compared(world, memory, entry);
+        return compare_entry(script, memory, entry);
     }
     if (2 <= k) & (k <= 4) {
-        return unanswered(arranged(world, entry), true);
+        return result_without_call(apply_setting(script, entry), true);
     }
-    let lent = world.lent as usize;
-    if memory.len() < lent {
-        return unanswered(world, false);
+    let lent_length = script.lent_length as usize;
+    if memory.len() < lent_length {
+        return result_without_call(script, false);
     }
-    called(world, &mut memory[..lent], entry)
+    call_entry(script, &mut memory[..lent_length], entry)
 }
 
 fn print(text: &[u8]) {
@@ -260,7 +265,7 @@ fn print_difference(entry: &[u8], script: u64, refusal: u8) {
     print_number(b"differs: script ", script);
     print_number(b", line ", line(entry) as u64);
     print_number(b", wanted ", wanted(entry) as u64);
-    print_number(b", answered ", refusal as u64);
+    print_number(b", result_of_call ", refusal as u64);
     print(b"\n");
 }
 
@@ -269,16 +274,16 @@ fn is_call(entry: &[u8]) -> bool {
     (k == 1) | ((5 <= k) & (k != 11))
 }
 
-fn counted(tally: Tally, entry: &[u8], done: Done) -> Tally {
+fn count_entry(tally: Tally, entry: &[u8], result: EntryResult) -> Tally {
     let call = is_call(entry);
-    let refused = done.refusal != 0;
+    let refused = result.refusal != 0;
     let k = kind(entry);
     Tally {
         scripts: wrapping_add_u64(tally.scripts, (k == 0) as u64),
         accepted: wrapping_add_u64(tally.accepted, (call & !refused) as u64),
         refused: wrapping_add_u64(tally.refused, (call & refused) as u64),
         states: wrapping_add_u64(tally.states, (k == 11) as u64),
-        different: wrapping_add_u64(tally.different, (!done.same) as u64),
+        different: wrapping_add_u64(tally.different, (!result.same) as u64),
     }
 }
 
@@ -290,20 +295,20 @@ fn run_all(entries: &[u8], memory: &mut [u8]) -> Tally {
         states: 0,
         different: 0,
     };
-    let start = begun(memory);
-    let mut world = start.world;
+    let start = begin_script(memory);
+    let mut script = start.script;
     let mut at: usize = 0;
     while at < 524288 {
         if entries.len() <= at {
             return tally;
         }
         let entry = rest(entries, at);
-        let done = carried_out(world, memory, entry);
-        tally = counted(tally, entry, done);
-        if !done.same {
-            print_difference(entry, tally.scripts, done.refusal);
+        let result = run_entry(script, memory, entry);
+        tally = count_entry(tally, entry, result);
+        if !result.same {
+            print_difference(entry, tally.scripts, result.refusal);
         }
-        world = done.world;
+        script = result.script;
         at = at + 20 + length(entry) as usize;
     }
     tally

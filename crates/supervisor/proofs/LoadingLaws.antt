@@ -3,9 +3,8 @@ use Prim.Native.Nat.{ℕ, _<_}
 use mathlib.Core.List.{List, _++_}
 use mathlib.Core.Path.{_≡_, sym, ap, _∙_}
 use borrow.Author.Tests.{ne-eqb}
-use Rattle.common.specs.Choice.{if_then_else_}
 use Rattle.common.specs.RefusalLaws.{none-holds, refused-by-front, left-to-rest}
-use Rattle.common.specs.Refusals.{Condition, unless, refusalBy}
+use Rattle.common.specs.Refusals.{Condition, refusalBy}
 use Rattle.common.specs.declared.places.Location.{Location}
 use Rattle.pattern.specs.Reader.{parametersOf, readOf, readRefusal}
 use Rattle.pattern.specs.ReaderLaws.{accepted-fact, refused-accepted, read-zero}
@@ -17,6 +16,7 @@ use Rattle.supervisor.specs.ConditionLaws.{SoundSystem, vacant-numbered,
 use Rattle.supervisor.specs.System.{System}
 use Rattle.supervisor.specs.Conditions.{memoryConditions, emptyConditions}
 use Rattle.supervisor.specs.Loading.{fileConditions, placeConditions, partitionFor}
+use Rattle.common.specs.RefusalDefinitions.{condition-definitions}
 
 -- a refused file has a number
 read-some : (s : List ℕ) (n : ℕ) → readOf s ≡ Refused n → n ≡ 0 → ⊥
@@ -46,7 +46,7 @@ module _ (x : System) (k : ℕ) where
     -- a file that is refused, and one that is not
     pub load-refused : {m : ℕ} → n ≡ 0 → (a : ReadResult) → a ≡ readOf file → a ≡ Refused m
         → (readRefusal a ≡ refusal (change k (load location file)) x) × (readRefusal a ≡ 0 → ⊥)
-    unfolding refusalBy unless if_then_else_ fileConditions
+    unfolding condition-definitions fileConditions
     load-refused {m} none a read q =
         let r : readOf file ≡ Refused m = sym read ∙ q in
         let some : m ≡ 0 → ⊥ = read-some file m r in
@@ -55,7 +55,7 @@ module _ (x : System) (k : ℕ) where
 
     pub load-places : {v : Parameters} → n ≡ 0 → (a : ReadResult) → a ≡ readOf file → a ≡ Accepted v
         → refusal (change k (load location file)) x ≡ refusalBy (placeConditions (x .table) k (partitionFor location v))
-    unfolding refusalBy unless if_then_else_ fileConditions
+    unfolding condition-definitions fileConditions
     load-places {v} none a read q =
         let r : readOf file ≡ Accepted v = sym read ∙ q in
         load-goes none ∙ rw (r, accepted-fact file v r .same)

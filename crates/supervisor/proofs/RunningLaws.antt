@@ -98,9 +98,9 @@ start-sound t memory s l = record { table = table-fact t s; fits = l }
 
 -- ---- the call
 
-pub run-number : (count : ℕ) (x : System) → refusalBy (memoryConditions x) ≡ refusal (run count) x
+pub run-refusal : (count : ℕ) (x : System) → refusalBy (memoryConditions x) ≡ refusal (run count) x
 unfolding refusal
-run-number count x = refl
+run-refusal count x = refl
 
 pub accepted-run : (count : ℕ) (x : System) → afterRun count x ≡ afterAccepted (run count) x
 unfolding afterAccepted

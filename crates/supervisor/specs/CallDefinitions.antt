@@ -1,7 +1,7 @@
 -- Names for lists of definitions, which laws and worked cases open together. Nothing here has to be believed.
 use Rattle.common.specs.Choice.{if_then_else_}
 use Rattle.common.specs.Layout.{layoutSound}
-use Rattle.common.specs.Refusals.{refusalBy, unless}
+use Rattle.common.specs.RefusalDefinitions.{condition-definitions}
 use Rattle.common.specs.Repetition.{times}
 use Rattle.common.specs.Tests.{allAfter, allBelow}
 use Rattle.cpu.specs.Cpu.{freshCpu}
@@ -13,19 +13,19 @@ use Rattle.supervisor.specs.Draining.{drainConditions, drainPatch, drain
 use Rattle.supervisor.specs.Feeding.{fedState, feedConditions, feedPatch}
 use Rattle.supervisor.specs.Loading.{fileConditions, loadPatch, partitionFor, placeConditions}
 use Rattle.supervisor.specs.Running.{afterRun, slotQuanta, slotQuantum}
-use Rattle.supervisor.specs.Sound.{allFifteenBits, allZero, apart, clearOfOthers, partitionSound, slotSound, stateSound, tableSound, zeroPartition, zeroState}
+use Rattle.supervisor.specs.Sound.{allFifteenBits, allZero, areApart, clearOfOthers, partitionSound, slotSound, stateSound, tableSound, isZeroPartition, isZeroState}
 use Rattle.supervisor.specs.System.{machineIn, patched}
 use Rattle.supervisor.specs.Table.{emptySlot, slotAt, withSlot}
 use Rattle.supervisor.specs.Unloading.{unloadPatch}
 
 -- which tables are sound, and an empty slot
 unfoldable pub sound-definitions : Type 0
-unfolding tableSound slotSound partitionSound stateSound zeroPartition zeroState allZero allFifteenBits clearOfOthers apart slotAt layoutSound allAfter allBelow emptySlot freshCpu
+unfolding tableSound slotSound partitionSound stateSound isZeroPartition isZeroState allZero allFifteenBits clearOfOthers areApart slotAt layoutSound allAfter allBelow emptySlot freshCpu
 sound-definitions = Unit {0}
 
 -- what refuses a call
 unfoldable pub refusal-definitions : Type 0
-unfolding refusal changeConditions queryConditions tableConditions memoryConditions emptyConditions loadedConditions fileConditions placeConditions feedConditions drainConditions refusalBy unless if_then_else_
+unfolding condition-definitions refusal changeConditions queryConditions tableConditions memoryConditions emptyConditions loadedConditions fileConditions placeConditions feedConditions drainConditions
 refusal-definitions = Unit {0}
 
 -- an accepted change at a slot, as a patch of it
@@ -33,9 +33,14 @@ unfoldable pub change-definitions : Type 0
 unfolding patchOf loadPatch unloadPatch feedPatch drainPatch partitionFor emptySlot freshState freshCpu fedState drainedState
 change-definitions = Unit {0}
 
+-- the patch of an accepted change, carried out
+unfoldable pub patch-definitions : Type 0
+unfolding afterAccepted patchOf patched withSlot slotAt
+patch-definitions = Unit {0}
+
 -- what a drain answers and leaves
 unfoldable pub drain-definitions : Type 0
-unfolding outcomeOf afterCall afterAccepted patchOf patched drainPatch drainedCount drainedBuffer withSlot slotAt if_then_else_
+unfolding patch-definitions outcomeOf afterCall drainPatch drainedCount drainedBuffer if_then_else_
 drain-definitions = Unit {0}
 
 -- a run of rounds

@@ -57,6 +57,7 @@ refusal (change k c) x = refusalBy (changeConditions c x k)
 refusal (run n) x = refusalBy (memoryConditions x)
 refusal (query q) x = refusalBy (queryConditions q (x .table))
 
+-- nothing refuses the call
 abbrev pub accepted : Call → System → Bool
 accepted c x = eqb (refusal c x) 0
 
@@ -81,14 +82,14 @@ afterCall c x = if accepted c x then afterAccepted c x else x
 
 -- what a call answers and leaves, as one value: every contract of an operation is an equation of this
 pub record Outcome : Type 0 where
-  pub number : ℕ
+  pub refusal : ℕ
   pub after : System
 
 abbrev pub outcome : ℕ → Table → List ℕ → Outcome
-outcome n t memory = record { number = n; after = system t memory }
+outcome n t memory = record { refusal = n; after = system t memory }
 
 unfoldable pub outcomeOf : Call → System → Outcome
-outcomeOf c x = record { number = refusal c x; after = afterCall c x }
+outcomeOf c x = record { refusal = refusal c x; after = afterCall c x }
 
 -- ---- what a call hands over beside
 

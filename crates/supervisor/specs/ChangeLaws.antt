@@ -11,7 +11,7 @@ use lib.ListN.{length, replicate, length-replicate}
 use Rattle.common.specs.Choice.{if_then_else_}
 use Rattle.common.specs.Layout.{layoutSize}
 use Rattle.common.specs.RefusalLaws.{zero-parts, none-holds, refusal-parts}
-use Rattle.common.specs.Refusals.{Condition, unless, refusalBy}
+use Rattle.common.specs.Refusals.{Condition, refusalBy}
 use Rattle.common.specs.TestLaws.{or-false, Within}
 use Rattle.common.specs.declared.layout.Layout.{Layout}
 use Rattle.common.specs.declared.places.Location.{Location}
@@ -43,6 +43,7 @@ use Rattle.supervisor.specs.declared.table.Partition.{Partition}
 use Rattle.supervisor.specs.declared.table.Slot.{Slot}
 use Rattle.supervisor.specs.declared.table.Table.{Table}
 use Rattle.supervisor.specs.CallDefinitions.{sound-definitions}
+use Rattle.common.specs.RefusalDefinitions.{condition-definitions}
 
 -- ---- load
 
@@ -96,7 +97,7 @@ module _ (x : System) (k : ℕ) (location : Location) (file : List ℕ) (a : Loa
               read = omega arith;
               filled = input-fits file (parametersOf file) (a .read);
               written = omega arith;
-              wants = λ e. absurd (omega arith);
+              wants-input = λ e. absurd (omega arith);
               full = λ e. absurd (omega arith);
             };
       }
@@ -187,7 +188,7 @@ fed-sound l s n h f =
       read = omega arith;
       filled = h;
       written = f .written;
-      wants = λ e. absurd (resumed-left 3 (s .status) (λ z. omega arith) e);
+      wants-input = λ e. absurd (resumed-left 3 (s .status) (λ z. omega arith) e);
       full = λ e. f .full (resumed-other 3 (s .status) 4 (λ z. omega arith) e);
     }
 
@@ -202,7 +203,7 @@ drained-sound l s f =
       read = f .read;
       filled = f .filled;
       written = omega arith;
-      wants = λ e. f .wants (resumed-other 4 (s .status) 3 (λ z. omega arith) e);
+      wants-input = λ e. f .wants-input (resumed-other 4 (s .status) 3 (λ z. omega arith) e);
       full = λ e. absurd (resumed-left 4 (s .status) (λ z. omega arith) e);
     }
 
@@ -230,7 +231,7 @@ change-fits (drain room) x k e = drain-fits x k (drain-accepted x k room refl e 
 -- ---- a load that no memory reaches
 
 place-far : (t : Table) (k : ℕ) (p : Partition) → t .size < partitionEnd p → refusalBy (placeConditions t k p) ≡ 12
-unfolding placeConditions refusalBy unless if_then_else_
+unfolding condition-definitions placeConditions
 place-far t k p h = rw (lt-ltb (t .size) (partitionEnd p) h)
 
 module _ (x : System) (k : ℕ) (file : List ℕ) where
@@ -244,8 +245,8 @@ module _ (x : System) (k : ℕ) (file : List ℕ) where
   abbrev behindFile : ℕ
   behindFile = if eqb (refusalBy (fileConditions file)) 0 then 12 else refusalBy (fileConditions file)
 
-  abbrev farNumber : ℕ
-  farNumber = if eqb (refusalBy vacantPart) 0 then behindFile else refusalBy vacantPart
+  abbrev farRefusal : ℕ
+  farRefusal = if eqb (refusalBy vacantPart) 0 then behindFile else refusalBy vacantPart
 
   module _ (a : Location) (far : 65536 ≤ a .0) where
     far-place : refusalBy vacantPart ≡ 0 → refusalBy (fileConditions file) ≡ 0 → refusalBy (placePart a) ≡ 12
@@ -265,9 +266,9 @@ module _ (x : System) (k : ℕ) (file : List ℕ) where
         go true f = far-place e (eqb-true _ _ f)
         go false f = refl
 
-    far-number : refusal (change k (load a file)) x ≡ farNumber
+    far-refusal : refusal (change k (load a file)) x ≡ farRefusal
     unfolding refusal changeConditions if_then_else_
-    far-number = refusal-parts vacantPart (fileConditions file ++ placePart a) (vacant-numbered x k) ∙ go (eqb (refusalBy vacantPart) 0) refl
+    far-refusal = refusal-parts vacantPart (fileConditions file ++ placePart a) (vacant-numbered x k) ∙ go (eqb (refusalBy vacantPart) 0) refl
       where
         go : (b : Bool) → eqb (refusalBy vacantPart) 0 ≡ b
             → (if b then refusalBy (fileConditions file ++ placePart a) else refusalBy vacantPart) ≡ (if b then behindFile else refusalBy vacantPart)
@@ -285,5 +286,5 @@ module _ (x : System) (k : ℕ) (file : List ℕ) where
   pub load-far : (a b : Location) → 65536 ≤ a .0 → 65536 ≤ b .0 → outcomeOf (change k (load a file)) x ≡ outcomeOf (change k (load b file)) x
   load-far a b p q =
       sym (refused-outcome (change k (load a file)) x refl (far-refused a p))
-      ∙ ap (λ (n : ℕ). outcome n (x .table) (x .memory)) (far-number a p ∙ sym (far-number b q))
+      ∙ ap (λ (n : ℕ). outcome n (x .table) (x .memory)) (far-refusal a p ∙ sym (far-refusal b q))
       ∙ refused-outcome (change k (load b file)) x refl (far-refused b q)

@@ -13,10 +13,12 @@ pub data Event : Type 0 where
   call : Call → Event
   write : (place byte : ℕ) → Event
 
+-- table and memory after an event
 unfoldable pub afterEvent : Event → System → System
 afterEvent (call c) x = afterCall c x
 afterEvent (write i b) x = system (x .table) (set (x .memory) i b)
 
+-- and after a list of them
 unfoldable pub afterEvents : List Event → System → System
 afterEvents [] x = x
 afterEvents (e ∷ rest) x = afterEvents rest (afterEvent e x)

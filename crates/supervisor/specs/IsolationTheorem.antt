@@ -15,7 +15,6 @@ use Rattle.common.specs.Layout.{layoutSize}
 use Rattle.cpu.specs.Machine.{machineOf, machineStep}
 use Rattle.common.specs.RepetitionLaws.{times-add}
 use Rattle.common.specs.Choice.{if_then_else_}
-use Rattle.common.specs.Refusals.{unless, refusalBy}
 use Rattle.slices.specs.SliceLaws.{part-front}
 use Rattle.slices.specs.Slices.{partOf}
 use Rattle.supervisor.specs.Calls.{Call, change, run, query, refusal, afterAccepted, accepted, afterCall}
@@ -33,6 +32,7 @@ use Rattle.supervisor.specs.Table.{isEmpty, partitionEnd}
 use Rattle.supervisor.specs.Sound.{tableSound}
 use Rattle.supervisor.specs.declared.table.Partition.{Partition}
 use Rattle.supervisor.specs.declared.table.Slot.{Slot}
+use Rattle.common.specs.RefusalDefinitions.{condition-definitions}
 
 -- slot j goes on as the lone machine for n steps
 record RunsAlone (j n : ℕ) (x y : System) : Type 0 where
@@ -168,7 +168,7 @@ sound-throughout (e ∷ rest) x g = (table-test (x .table) (g .table), sound-thr
 
 -- a sound table with its memory refuses no run
 pub run-accepted : (x : System) → SoundSystem x → (count : ℕ) → refusal (run count) x ≡ 0
-unfolding refusal memoryConditions tableConditions refusalBy unless if_then_else_
+unfolding condition-definitions refusal memoryConditions tableConditions
 run-accepted x g count = simp (table-test (x .table) (g .table), eq-eqb (length (x .memory)) (x .table .size) (g .fits))
 
 runs-throughout : (events : List Event) (x : System) → SoundSystem x → RunsAccepted events x

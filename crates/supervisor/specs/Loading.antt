@@ -16,7 +16,7 @@ use Rattle.supervisor.specs.declared.table.Table.{Table}
 
 -- the partition of a pattern with those parameters that is loaded there
 unfoldable pub partitionFor : Location → Parameters → Partition
-partitionFor location v = record { base = location; layout = v .layout; quantum = v .quantum }
+partitionFor location parameters = record { base = location; layout = parameters .layout; quantum = parameters .quantum }
 
 -- the reader's number
 unfoldable pub fileConditions : List ℕ → List Condition

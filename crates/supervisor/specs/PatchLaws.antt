@@ -17,7 +17,7 @@ use Rattle.slices.specs.SliceLaws.{copied-length, byte-before-copy, byte-after-
 use Rattle.slices.specs.Slices.{copied}
 use Rattle.supervisor.specs.ConditionLaws.{SoundSystem, HoldsPattern}
 use Rattle.supervisor.specs.Isolation.{InNoPartition, inPartition}
-use Rattle.supervisor.specs.SlotMachineLaws.{untouched}
+use Rattle.supervisor.specs.SlotMachineLaws.{machine-untouched}
 use Rattle.supervisor.specs.System.{System, slotOf, Patch, patch, patched, machineIn}
 use Rattle.supervisor.specs.SoundLaws.{StateSound, Loaded, Unloaded, slot-fact, slot-test, loaded-live, Apart, apart-cases, with-slot-same, with-slot-other, with-slot-size, with-slot-sound}
 use Rattle.supervisor.specs.Table.{slotWithState, isEmpty, partitionEnd}
@@ -111,7 +111,7 @@ module _ (x : System) (g : SoundSystem x) (k : ℕ) (p : Patch) where
         slots = patched-others;
         machines = λ j q ne.
             ap (λ (z : Slot). machineIn z (copied (x .memory) (p .place .0) (p .bytes))) (patched-others j ne)
-            ∙ untouched (slotOf x j) (x .memory) (p .place .0) (p .bytes) (clear j q ne (f .inside));
+            ∙ machine-untouched (slotOf x j) (x .memory) (p .place .0) (p .bytes) (clear j q ne (f .inside));
         bytes = λ i h₀ h₁. bytes i h₀ h₁ (f .inside);
       }
     where

@@ -90,10 +90,10 @@ written-back s m memory f h =
     ap (machineOf l (m .state)) back ∙ machine-again l m f
 
 -- a stretch that does not meet the partition is written
-pub untouched : (s : Slot) (memory : List ℕ) (at : ℕ) (b : List ℕ) → (partitionEnd (s .partition) ≤ at) ⊎ (at + length b ≤ s .partition .base .0) → machineIn s (copied memory at b) ≡ machineIn s memory
+pub machine-untouched : (s : Slot) (memory : List ℕ) (at : ℕ) (b : List ℕ) → (partitionEnd (s .partition) ≤ at) ⊎ (at + length b ≤ s .partition .base .0) → machineIn s (copied memory at b) ≡ machineIn s memory
 unfolding machineIn
-untouched s memory at b (inl u) = ap (machineOf (s .partition .layout) (s .state)) (part-before-copy memory at b (s .partition .base .0) (layoutSize (s .partition .layout)) u)
-untouched s memory at b (inr u) = ap (machineOf (s .partition .layout) (s .state)) (part-after-copy memory at b (s .partition .base .0) (layoutSize (s .partition .layout)) u)
+machine-untouched s memory at b (inl u) = ap (machineOf (s .partition .layout) (s .state)) (part-before-copy memory at b (s .partition .base .0) (layoutSize (s .partition .layout)) u)
+machine-untouched s memory at b (inr u) = ap (machineOf (s .partition .layout) (s .state)) (part-after-copy memory at b (s .partition .base .0) (layoutSize (s .partition .layout)) u)
 
 -- ---- sound slots have sound machines, and back
 
@@ -111,7 +111,7 @@ machine-sound size s memory f h =
       written = omega (arith, g .written, o);
       least = g .status .some;
       most = g .status .fits;
-      wants = g .wants;
+      wants-input = g .wants-input;
       full = λ e. g .full e ∙ sym o;
     }
 
@@ -127,6 +127,6 @@ state-sound l m z f =
       read = f .read;
       filled = omega (arith, f .filled, i);
       written = omega (arith, f .written, o);
-      wants = f .wants;
+      wants-input = f .wants-input;
       full = λ e. f .full e ∙ o;
     }

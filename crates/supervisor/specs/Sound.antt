@@ -5,7 +5,7 @@ use lib.ListN.{getD, length}
 use mathlib.Core.Bool.{Bool, _&&_, _||_, not}
 use mathlib.Core.List.{List, [], _∷_}
 use Rattle.common.specs.Layout.{layoutSound}
-use Rattle.common.specs.Ranges.{within}
+use Rattle.common.specs.Ranges.{isWithin}
 use Rattle.common.specs.Tests.{all, allBelow}
 use Rattle.cpu.specs.Cpu.{storedPsu}
 use Rattle.cpu.specs.Result.{lastStatus}
@@ -17,12 +17,12 @@ use Rattle.supervisor.specs.declared.table.Slot.{Slot}
 use Rattle.supervisor.specs.declared.table.Table.{Table}
 
 -- two partitions that do not meet; an empty slot's meets none
-unfoldable pub apart : Partition → Partition → Bool
-apart p q = leb (partitionEnd p) (q .base .0) || leb (partitionEnd q) (p .base .0)
+unfoldable pub areApart : Partition → Partition → Bool
+areApart p q = leb (partitionEnd p) (q .base .0) || leb (partitionEnd q) (p .base .0)
 
 -- a partition in range, inside a memory of that size
 unfoldable pub partitionSound : ℕ → Partition → Bool
-partitionSound size p = all (layoutSound (p .layout) ∷ within (p .quantum) 255 ∷ leb (partitionEnd p) size ∷ [])
+partitionSound size p = all (layoutSound (p .layout) ∷ isWithin (p .quantum) 255 ∷ leb (partitionEnd p) size ∷ [])
 
 -- return addresses of fifteen bits; a list of zeros
 unfoldable pub allFifteenBits : List ℕ → Bool
@@ -36,7 +36,7 @@ allZero l = allBelow (length l) (λ i. eqb (getD l i 0) 0)
 unfoldable pub stateSound : Layout → State → Bool
 stateSound l s =
     all
-    (within (s .status) lastStatus
+    (isWithin (s .status) lastStatus
     ∷ ltb (s .cpu .counter) 32768
     ∷ allFifteenBits (s .cpu .returns)
     ∷ eqb (storedPsu (s .cpu .psu)) (s .cpu .psu)
@@ -48,8 +48,8 @@ stateSound l s =
     ∷ [])
 
 -- an empty slot is all zero
-unfoldable pub zeroPartition : Partition → Bool
-zeroPartition p =
+unfoldable pub isZeroPartition : Partition → Bool
+isZeroPartition p =
     all
     (eqb (p .base .0) 0
     ∷ eqb (p .layout .window) 0
@@ -58,8 +58,8 @@ zeroPartition p =
     ∷ eqb (p .quantum) 0
     ∷ [])
 
-unfoldable pub zeroState : State → Bool
-zeroState s =
+unfoldable pub isZeroState : State → Bool
+isZeroState s =
     all
     (eqb (s .status) 0
     ∷ eqb (s .filled) 0
@@ -75,18 +75,18 @@ zeroState s =
 -- empty, or a sound partition with a sound state
 unfoldable pub slotSound : ℕ → Slot → Bool
 slotSound size s =
-    zeroPartition (s .partition) && zeroState (s .state)
+    isZeroPartition (s .partition) && isZeroState (s .state)
     || partitionSound size (s .partition) && stateSound (s .partition .layout) (s .state)
 
 -- p meets the partition of no slot but one
 unfoldable pub clearOfOthers : Table → ℕ → Partition → Bool
-clearOfOthers t but p = allBelow 8 (λ j. eqb j but || apart (slotAt t j .partition) p)
+clearOfOthers t except p = allBelow 8 (λ j. eqb j except || areApart (slotAt t j .partition) p)
 
 -- the memory's length is 1 to 65,536; each of the eight slots is sound; the partitions are disjoint
 unfoldable pub tableSound : Table → Bool
 tableSound t =
     all
-    (within (t .size) 65536
+    (isWithin (t .size) 65536
     ∷ eqb (length (t .slots)) 8
     ∷ allBelow 8 (λ k. slotSound (t .size) (slotAt t k))
     ∷ allBelow 8 (λ k. clearOfOthers t k (slotAt t k .partition))

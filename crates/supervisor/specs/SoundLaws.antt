@@ -18,7 +18,7 @@ use Rattle.cpu.specs.Result.{lastStatus}
 use Rattle.cpu.specs.Cpu.{storedPsu}
 use Rattle.cpu.specs.declared.state.State.{State}
 use Rattle.supervisor.specs.Table.{noSlot, slotAt, withSlot, isEmpty, partitionEnd}
-use Rattle.supervisor.specs.Sound.{partitionSound, allFifteenBits, stateSound, zeroPartition, zeroState, slotSound, apart, clearOfOthers, tableSound}
+use Rattle.supervisor.specs.Sound.{partitionSound, allFifteenBits, stateSound, isZeroPartition, isZeroState, slotSound, areApart, clearOfOthers, tableSound}
 use Rattle.supervisor.specs.declared.table.Partition.{Partition}
 use Rattle.supervisor.specs.declared.table.Slot.{Slot}
 use Rattle.supervisor.specs.declared.table.Table.{Table}
@@ -50,7 +50,7 @@ pub record StateSound (l : Layout) (s : State) : Type 0 where
   pub read : s .read ≤ s .filled
   pub filled : s .filled ≤ l .input
   pub written : s .written ≤ l .output
-  pub wants : s .status ≡ 3 → s .read ≡ s .filled
+  pub wants-input : s .status ≡ 3 → s .read ≡ s .filled
   pub full : s .status ≡ 4 → s .written ≡ l .output
 
 fifteen-bits-fact : (l : List ℕ) → allFifteenBits l ≡ true → (i : ℕ) → getD l i 0 < 32768
@@ -69,7 +69,7 @@ module _ (l : Layout) (s : State) where
   state-fact : stateSound l s ≡ true → StateSound l s
   unfolding stateSound
   state-fact h =
-      let (status, (counter, (returns, (psu, (read, (filled, (written, (wants, (full, _))))))))) = all-fact _ h in
+      let (status, (counter, (returns, (psu, (read, (filled, (written, (wants-input, (full, _))))))))) = all-fact _ h in
       record {
         status = within-fact _ lastStatus status;
         counter = ltb-true _ _ counter;
@@ -78,7 +78,7 @@ module _ (l : Layout) (s : State) where
         read = leb-true _ _ read;
         filled = leb-true _ _ filled;
         written = leb-true _ _ written;
-        wants = when-fact (s .status) 3 (s .read) (s .filled) wants;
+        wants-input = when-fact (s .status) 3 (s .read) (s .filled) wants-input;
         full = when-fact (s .status) 4 (s .written) (l .output) full;
       }
 
@@ -100,7 +100,7 @@ module _ (l : Layout) (s : State) where
                   (
                     le-leb _ _ (f .written),
                     (
-                      when-test (s .status) 3 (s .read) (s .filled) (f .wants),
+                      when-test (s .status) 3 (s .read) (s .filled) (f .wants-input),
                       (when-test (s .status) 4 (s .written) (l .output) (f .full), tt),
                     ),
                   ),
@@ -123,8 +123,8 @@ pub record Unloaded (s : Slot) : Type 0 where
   pub bytes : layoutSize (s .partition .layout) ≡ 0
   pub status : s .state .status ≡ 0
 
-zero-slot : (s : Slot) → zeroPartition (s .partition) ≡ true → zeroState (s .state) ≡ true → Unloaded s
-unfolding zeroPartition zeroState
+zero-slot : (s : Slot) → isZeroPartition (s .partition) ≡ true → isZeroState (s .state) ≡ true → Unloaded s
+unfolding isZeroPartition isZeroState
 zero-slot s h z =
     let (base, (window, (input, (output, _)))) = all-fact _ h in
     let (status, _) = all-fact _ z in
@@ -135,10 +135,10 @@ zero-slot s h z =
 
 pub slot-fact : (size : ℕ) (s : Slot) → slotSound size s ≡ true → Unloaded s ⊎ Loaded size s
 unfolding slotSound
-slot-fact size s h = go (or-fact (zeroPartition (s .partition) && zeroState (s .state)) _ h)
+slot-fact size s h = go (or-fact (isZeroPartition (s .partition) && isZeroState (s .state)) _ h)
   where
-    go : ((zeroPartition (s .partition) && zeroState (s .state)) ≡ true) ⊎ ((partitionSound size (s .partition) && stateSound (s .partition .layout) (s .state)) ≡ true) → Unloaded s ⊎ Loaded size s
-    go (inl u) = let b = and-fact (zeroPartition (s .partition)) (zeroState (s .state)) u in inl (zero-slot s (b .0) (b .1))
+    go : ((isZeroPartition (s .partition) && isZeroState (s .state)) ≡ true) ⊎ ((partitionSound size (s .partition) && stateSound (s .partition .layout) (s .state)) ≡ true) → Unloaded s ⊎ Loaded size s
+    go (inl u) = let b = and-fact (isZeroPartition (s .partition)) (isZeroState (s .state)) u in inl (zero-slot s (b .0) (b .1))
     go (inr u) =
         let b = and-fact (partitionSound size (s .partition)) (stateSound (s .partition .layout) (s .state)) u in
         inr (record { partition = partition-fact size (s .partition) (b .0); state = state-fact (s .partition .layout) (s .state) (b .1) })
@@ -146,7 +146,7 @@ slot-fact size s h = go (or-fact (zeroPartition (s .partition) && zeroState (s .
 pub slot-test : (size : ℕ) (s : Slot) → Loaded size s → slotSound size s ≡ true
 unfolding slotSound
 slot-test size s f =
-    or-right (zeroPartition (s .partition) && zeroState (s .state)) _
+    or-right (isZeroPartition (s .partition) && isZeroState (s .state)) _
     (and-test (partitionSound size (s .partition)) (stateSound (s .partition .layout) (s .state)) (partition-test size (s .partition) (f .partition)) (state-test (s .partition .layout) (s .state) (f .state)))
 
 pub loaded-slot : (size : ℕ) (s : Slot) → slotSound size s ≡ true → isEmpty s ≡ false → Loaded size s
@@ -177,38 +177,38 @@ pub apart-behind : (p q : Partition) → partitionEnd q ≤ p .base .0 → Apart
 unfolding Apart
 apart-behind p q h = inr h
 
-apart-fact : (p q : Partition) → apart p q ≡ true → Apart p q
-unfolding apart Apart
+apart-fact : (p q : Partition) → areApart p q ≡ true → Apart p q
+unfolding areApart Apart
 apart-fact p q h = go (or-fact (leb (partitionEnd p) (q .base .0)) (leb (partitionEnd q) (p .base .0)) h)
   where
     go : (leb (partitionEnd p) (q .base .0) ≡ true) ⊎ (leb (partitionEnd q) (p .base .0) ≡ true) → (partitionEnd p ≤ q .base .0) ⊎ (partitionEnd q ≤ p .base .0)
     go (inl u) = inl (leb-true _ _ u)
     go (inr u) = inr (leb-true _ _ u)
 
-apart-test : (p q : Partition) → Apart p q → apart p q ≡ true
-unfolding apart Apart
+apart-test : (p q : Partition) → Apart p q → areApart p q ≡ true
+unfolding areApart Apart
 apart-test p q (inl u) = or-left (leb (partitionEnd p) (q .base .0)) (leb (partitionEnd q) (p .base .0)) (le-leb _ _ u)
 apart-test p q (inr u) = or-right (leb (partitionEnd p) (q .base .0)) (leb (partitionEnd q) (p .base .0)) (le-leb _ _ u)
 
-module _ (t : Table) (but : ℕ) (p : Partition) where
+module _ (t : Table) (except : ℕ) (p : Partition) where
   isClear : ℕ → Bool
-  isClear j = eqb j but || apart (slotAt t j .partition) p
+  isClear j = eqb j except || areApart (slotAt t j .partition) p
 
-  pub clear-fact : clearOfOthers t but p ≡ true → (j : ℕ) → j < 8 → j ≢ but → Apart (slotAt t j .partition) p
+  pub clear-fact : clearOfOthers t except p ≡ true → (j : ℕ) → j < 8 → j ≢ except → Apart (slotAt t j .partition) p
   unfolding clearOfOthers isClear
-  clear-fact h j q ne = go (or-fact (eqb j but) (apart (slotAt t j .partition) p) (below-fact 8 isClear h j q))
+  clear-fact h j q ne = go (or-fact (eqb j except) (areApart (slotAt t j .partition) p) (below-fact 8 isClear h j q))
     where
-      go : (eqb j but ≡ true) ⊎ (apart (slotAt t j .partition) p ≡ true) → Apart (slotAt t j .partition) p
-      go (inl u) = absurd (ne (eqb-true j but u))
+      go : (eqb j except ≡ true) ⊎ (areApart (slotAt t j .partition) p ≡ true) → Apart (slotAt t j .partition) p
+      go (inl u) = absurd (ne (eqb-true j except u))
       go (inr u) = apart-fact (slotAt t j .partition) p u
 
-  pub clear-test : ((j : ℕ) → j < 8 → j ≢ but → Apart (slotAt t j .partition) p) → clearOfOthers t but p ≡ true
+  pub clear-test : ((j : ℕ) → j < 8 → j ≢ except → Apart (slotAt t j .partition) p) → clearOfOthers t except p ≡ true
   unfolding clearOfOthers isClear
-  clear-test h = below-test 8 isClear (λ j q. go j q (ℕ-discrete j but))
+  clear-test h = below-test 8 isClear (λ j q. go j q (ℕ-discrete j except))
     where
-      go : (j : ℕ) → j < 8 → Dec (j ≡ but) → isClear j ≡ true
-      go j q (yes e) = or-left (eqb j but) (apart (slotAt t j .partition) p) (eq-eqb j but e)
-      go j q (no e) = or-right (eqb j but) (apart (slotAt t j .partition) p) (apart-test (slotAt t j .partition) p (h j q e))
+      go : (j : ℕ) → j < 8 → Dec (j ≡ except) → isClear j ≡ true
+      go j q (yes e) = or-left (eqb j except) (areApart (slotAt t j .partition) p) (eq-eqb j except e)
+      go j q (no e) = or-right (eqb j except) (areApart (slotAt t j .partition) p) (apart-test (slotAt t j .partition) p (h j q e))
 
 -- ---- a sound table
 

@@ -14,6 +14,7 @@ pub record System : Type 0 where
   pub table : Table
   pub memory : List ℕ
 
+-- such a pair of its parts
 abbrev pub system : Table → List ℕ → System
 system t memory = record { table = t; memory = memory }
 

@@ -6,7 +6,7 @@ use mathlib.Core.Bool.{Bool, not}
 use mathlib.Core.List.{[], _∷_}
 use Rattle.common.specs.Choice.{if_then_else_}
 use Rattle.common.specs.Layout.{layoutSize}
-use Rattle.common.specs.Ranges.{within}
+use Rattle.common.specs.Ranges.{isWithin}
 use Rattle.common.specs.Refusals.{_gives_, refusalBy}
 use Rattle.cpu.specs.Cpu.{freshCpu}
 use Rattle.cpu.specs.State.{restingState}
@@ -16,12 +16,12 @@ use Rattle.supervisor.specs.declared.table.Slot.{Slot}
 use Rattle.supervisor.specs.declared.table.Table.{Table}
 
 -- the partition of an empty slot: no bytes, at 0
-abbrev pub noPartition : Partition
-noPartition = record { base = record { 0 = 0 }; layout = record { window = 0; input = 0; output = 0 }; quantum = 0 }
+abbrev pub emptyPartition : Partition
+emptyPartition = record { base = record { 0 = 0 }; layout = record { window = 0; input = 0; output = 0 }; quantum = 0 }
 
 -- what stands past the end of a table's slots: never met, since there are eight
 abbrev pub noSlot : Slot
-noSlot = record { partition = noPartition; state = restingState (record { counter = 0; registers = []; psu = 0; psl = 0; returns = [] }) }
+noSlot = record { partition = emptyPartition; state = restingState (record { counter = 0; registers = []; psu = 0; psl = 0; returns = [] }) }
 
 -- the slot of that number, and the table with another one there
 unfoldable pub slotAt : Table → ℕ → Slot
@@ -46,7 +46,7 @@ partitionEnd p = p .base .0 + layoutSize (p .layout)
 
 -- an empty slot is all zero
 unfoldable pub emptySlot : Slot
-emptySlot = record { partition = noPartition; state = restingState (freshCpu (record { 0 = 0 })) }
+emptySlot = record { partition = emptyPartition; state = restingState (freshCpu (record { 0 = 0 })) }
 
 -- a table of eight empty slots, for a memory of that length
 abbrev pub emptyTable : ℕ → Table
@@ -54,7 +54,7 @@ emptyTable size = record { size = size; slots = replicate 8 emptySlot }
 
 -- the number that refuses a new table, 0 for none
 unfoldable pub newRefusal : ℕ → ℕ
-newRefusal length = refusalBy (not (within length 65536) gives 2 ∷ [])
+newRefusal length = refusalBy (not (isWithin length 65536) gives 2 ∷ [])
 
 -- document 01's fresh record: all slots empty; a refused one is all zero
 unfoldable pub newTable : ℕ → Table

@@ -18,9 +18,9 @@ pub(crate) fn table_refusal(table: Table) -> u8
 pub(crate) fn memory_refusal(table: Table, memory: &[u8]) -> u8
     ensures { λ r. ⌜ r ≡ refusalBy (memoryConditions (system table (now (memory .entry)))) ⌝ }
 {
-    let number = table_refusal(table);
-    if number != 0 {
-        return number;
+    let refusal = table_refusal(table);
+    if refusal != 0 {
+        return refusal;
     }
     if memory.len() != table.size as usize {
         return 2;
@@ -62,9 +62,9 @@ fn loaded_refusal(table: Table, slot: usize) -> u8
 pub(crate) fn memory_empty_refusal(table: Table, memory: &[u8], slot: usize) -> u8
     ensures { λ r. ⌜ r ≡ refusalBy (memoryConditions (system table (now (memory .entry))) ++ emptyConditions table slot) ⌝ }
 {
-    let number = memory_refusal(table, memory);
-    if number != 0 {
-        return number;
+    let refusal = memory_refusal(table, memory);
+    if refusal != 0 {
+        return refusal;
     }
     empty_refusal(table, slot)
 }
@@ -73,9 +73,9 @@ pub(crate) fn memory_empty_refusal(table: Table, memory: &[u8], slot: usize) -> 
 pub(crate) fn memory_loaded_refusal(table: Table, memory: &[u8], slot: usize) -> u8
     ensures { λ r. ⌜ r ≡ refusalBy (memoryConditions (system table (now (memory .entry))) ++ loadedConditions table slot) ⌝ }
 {
-    let number = memory_refusal(table, memory);
-    if number != 0 {
-        return number;
+    let refusal = memory_refusal(table, memory);
+    if refusal != 0 {
+        return refusal;
     }
     loaded_refusal(table, slot)
 }
@@ -84,9 +84,9 @@ pub(crate) fn memory_loaded_refusal(table: Table, memory: &[u8], slot: usize) ->
 pub(crate) fn table_loaded_refusal(table: Table, slot: usize) -> u8
     ensures { λ r. ⌜ r ≡ refusalBy (tableConditions table ++ loadedConditions table slot) ⌝ }
 {
-    let number = table_refusal(table);
-    if number != 0 {
-        return number;
+    let refusal = table_refusal(table);
+    if refusal != 0 {
+        return refusal;
     }
     loaded_refusal(table, slot)
 }

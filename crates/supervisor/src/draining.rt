@@ -22,9 +22,9 @@ pub struct DrainAnswer {
 fn drain_refusal(table: Table, memory: &[u8], slot: usize, room: usize) -> u8
     ensures { λ r. ⌜ r ≡ refusal (calls.change slot (calls.drain room)) (system table (now (memory .entry))) ⌝ }
 {
-    let number = memory_loaded_refusal(table, memory, slot);
-    if number != 0 {
-        return number;
+    let refusal = memory_loaded_refusal(table, memory, slot);
+    if refusal != 0 {
+        return refusal;
     }
     let s = table.slots[slot];
     let state = s.state;
@@ -50,10 +50,10 @@ pub fn drain(table: Table, memory: &[u8], slot: usize, buffer: &mut [u8]) -> Dra
     ensures { λ r. ⌜ r .count ≡ drainedCount (system table (now (memory .entry))) slot (length (now (buffer .entry))) ⌝ }
     ensures { λ r. ⌜ now (buffer .exit) ≡ drainedBuffer (system table (now (memory .entry))) slot (now (buffer .entry)) ⌝ }
 {
-    let number = drain_refusal(table, memory, slot, buffer.len());
-    if number != 0 {
+    let refusal = drain_refusal(table, memory, slot, buffer.len());
+    if refusal != 0 {
         return DrainAnswer {
-            refusal: number,
+            refusal,
             count: 0,
             table,
         };

@@ -15,9 +15,9 @@ ghost use Rattle.supervisor.specs.Feeding.{fedState};
 fn feed_refusal(table: Table, memory: &[u8], slot: usize, bytes: &[u8]) -> u8
     ensures { λ r. ⌜ r ≡ refusal (calls.change slot (calls.feed (now (bytes .entry)))) (system table (now (memory .entry))) ⌝ }
 {
-    let number = memory_loaded_refusal(table, memory, slot);
-    if number != 0 {
-        return number;
+    let refusal = memory_loaded_refusal(table, memory, slot);
+    if refusal != 0 {
+        return refusal;
     }
     let s = table.slots[slot];
     let p = s.partition;
@@ -47,12 +47,9 @@ fn fed_state(count: u16, s: State) -> State
 pub fn feed(table: Table, memory: &mut [u8], slot: usize, bytes: &[u8]) -> Answer
     ensures { λ r. ⌜ outcome (r .refusal) (r .table) (now (memory .exit)) ≡ outcomeOf (calls.change slot (calls.feed (now (bytes .entry)))) (system table (now (memory .entry))) ⌝ }
 {
-    let number = feed_refusal(table, &memory[..], slot, bytes);
-    if number != 0 {
-        return Answer {
-            refusal: number,
-            table,
-        };
+    let refusal = feed_refusal(table, &memory[..], slot, bytes);
+    if refusal != 0 {
+        return Answer { refusal, table };
     }
     let s = table.slots[slot];
     let partition = s.partition;

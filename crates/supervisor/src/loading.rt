@@ -17,14 +17,14 @@ ghost use Rattle.supervisor.specs.Calls.{outcome, outcomeOf};
 ghost use Rattle.supervisor.specs.System.{system, patched};
 ghost use Rattle.supervisor.specs.Loading.{partitionFor, placeConditions, loadPatch};
 
-fn partition_for(base: Location, v: Parameters) -> Partition
-    ensures { λ r. ⌜ r ≡ partitionFor base v ⌝ }
+fn partition_for(base: Location, parameters: Parameters) -> Partition
+    ensures { λ r. ⌜ r ≡ partitionFor base parameters ⌝ }
 {
-    let layout = v.layout;
+    let layout = parameters.layout;
     Partition {
         base,
         layout,
-        quantum: v.quantum,
+        quantum: parameters.quantum,
     }
 }
 
@@ -47,17 +47,17 @@ fn load_slot(
     memory: &mut [u8],
     slot: usize,
     partition: Partition,
-    v: Parameters,
+    parameters: Parameters,
     file: &[u8],
 ) -> Table
     requires { ⌜ slot < 8 ⌝ }
-    requires { ⌜ readOf (now file) ≡ Accepted v ⌝ }
-    requires { ⌜ partition ≡ partitionFor (partition .base) v ⌝ }
+    requires { ⌜ readOf (now file) ≡ Accepted parameters ⌝ }
+    requires { ⌜ partition ≡ partitionFor (partition .base) parameters ⌝ }
     ensures { λ r. ⌜ system r (now (memory .exit)) ≡ patched (system table (now (memory .entry))) slot (loadPatch (partition .base) (now (file .entry))) ⌝ }
 {
     loader::put_fresh_bytes(file, memory, partition.base);
     let input = pattern::input_body(file);
-    let state = loader::fresh_state(v, input.len() as u16);
+    let state = loader::fresh_state(parameters, input.len() as u16);
     let mut next = table;
     next.slots[slot] = Slot { partition, state };
     next
@@ -67,21 +67,18 @@ fn load_slot(
 pub fn load(table: Table, memory: &mut [u8], slot: usize, location: Location, file: &[u8]) -> Answer
     ensures { λ r. ⌜ outcome (r .refusal) (r .table) (now (memory .exit)) ≡ outcomeOf (calls.change slot (calls.load location (now (file .entry)))) (system table (now (memory .entry))) ⌝ }
 {
-    let number = memory_empty_refusal(table, &memory[..], slot);
-    if number != 0 {
-        return Answer {
-            refusal: number,
-            table,
-        };
+    let refusal = memory_empty_refusal(table, &memory[..], slot);
+    if refusal != 0 {
+        return Answer { refusal, table };
     }
     let answer = pattern::read(file);
-    let pattern::ReadResult::Accepted(v) = answer else {
+    let pattern::ReadResult::Accepted(parameters) = answer else {
         return Answer {
             refusal: answer.refusal(),
             table,
         };
     };
-    let partition = partition_for(location, v);
+    let partition = partition_for(location, parameters);
     let misplaced = place_refusal(table, slot, partition);
     if misplaced != 0 {
         return Answer {
@@ -89,7 +86,7 @@ pub fn load(table: Table, memory: &mut [u8], slot: usize, location: Location, fi
             table,
         };
     }
-    let next = load_slot(table, memory, slot, partition, v, file);
+    let next = load_slot(table, memory, slot, partition, parameters, file);
     Answer {
         refusal: 0,
         table: next,

@@ -1,4 +1,4 @@
-// Document 01's status of a station.
+// Resuming: a stopped machine runs again.
 ghost use mathlib.Core.Path.{_≡_};
 ghost use Rattle.supervisor.specs.Resuming.{resumedStatus};
 

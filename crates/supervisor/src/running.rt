@@ -17,7 +17,7 @@ use crate::table::Table;
 use cpu::State;
 
 // One slot's quantum: its machine is lent its partition's bytes and nothing else.
-fn slot_quantum(slot: Slot, memory: &mut [u8]) -> State
+fn run_quantum(slot: Slot, memory: &mut [u8]) -> State
     requires { ⌜ partitionEnd (slot .partition) ≤ length (now memory) ⌝ }
     ensures { λ r. ⌜ r ≡ afterQuantum slot (now (memory .entry)) .state ⌝ }
     ensures { λ _. ⌜ now (memory .exit) ≡ copied (now (memory .entry)) (slot .partition .base .0) (machineBytes (afterQuantum slot (now (memory .entry)))) ⌝ }
@@ -32,7 +32,7 @@ fn slot_quantum(slot: Slot, memory: &mut [u8]) -> State
 }
 
 // Rounds over all slots, the table changed in place. A slot that is empty or stopped costs a test.
-fn rounds(table: Table, memory: &mut [u8], count: u16) -> Table
+fn run_rounds(table: Table, memory: &mut [u8], count: u16) -> Table
     requires { ⌜ tableSound table ≡ true ⌝ }
     requires { ⌜ length (now memory) ≡ table .size ⌝ }
     ensures { λ r. ⌜ system r (now (memory .exit)) ≡ afterRun count (system table (now (memory .entry))) ⌝ }
@@ -46,7 +46,7 @@ fn rounds(table: Table, memory: &mut [u8], count: u16) -> Table
             let status = s.state.status;
             if status == 1 {
                 let partition = s.partition;
-                let state = slot_quantum(s, memory);
+                let state = run_quantum(s, memory);
                 next.slots[k] = Slot { partition, state };
             }
             k += 1;
@@ -56,17 +56,15 @@ fn rounds(table: Table, memory: &mut [u8], count: u16) -> Table
     next
 }
 
+// Document 01's pass, so many times.
 pub fn run(table: Table, memory: &mut [u8], count: u16) -> Answer
     ensures { λ r. ⌜ outcome (r .refusal) (r .table) (now (memory .exit)) ≡ outcomeOf (calls.run count) (system table (now (memory .entry))) ⌝ }
 {
-    let number = memory_refusal(table, &memory[..]);
-    if number != 0 {
-        return Answer {
-            refusal: number,
-            table,
-        };
+    let refusal = memory_refusal(table, &memory[..]);
+    if refusal != 0 {
+        return Answer { refusal, table };
     }
-    let next = rounds(table, memory, count);
+    let next = run_rounds(table, memory, count);
     Answer {
         refusal: 0,
         table: next,

@@ -9,7 +9,7 @@ use cpu::stored_psu;
 ghost use mathlib.Core.Path.{_≡_};
 ghost use Rattle.common.specs.Tests.{allBelow};
 ghost use Rattle.supervisor.specs.Table.{slotAt};
-ghost use Rattle.supervisor.specs.Sound.{allFifteenBits, allZero, partitionSound, stateSound, zeroPartition, zeroState, slotSound, apart, clearOfOthers, tableSound};
+ghost use Rattle.supervisor.specs.Sound.{allFifteenBits, allZero, partitionSound, stateSound, isZeroPartition, isZeroState, slotSound, areApart, clearOfOthers, tableSound};
 
 fn partition_sound(size: u32, p: Partition) -> bool
     ensures { λ r. ⌜ r ≡ partitionSound size p ⌝ }
@@ -31,7 +31,7 @@ fn all_fifteen_bits(l: &[u16]) -> bool
     ok
 }
 
-fn zero_words(l: &[u16]) -> bool
+fn all_zero_u16s(l: &[u16]) -> bool
     ensures { λ r. ⌜ r ≡ allZero (now (l .entry)) ⌝ }
 {
     let mut ok = true;
@@ -43,7 +43,7 @@ fn zero_words(l: &[u16]) -> bool
     ok
 }
 
-fn zero_bytes(l: &[u8]) -> bool
+fn all_zero_bytes(l: &[u8]) -> bool
     ensures { λ r. ⌜ r ≡ allZero (now (l .entry)) ⌝ }
 {
     let mut ok = true;
@@ -71,8 +71,8 @@ fn state_sound(layout: Layout, s: State) -> bool
         & ((s.status != 4) | (s.written == layout.output))
 }
 
-fn zero_partition(p: Partition) -> bool
-    ensures { λ r. ⌜ r ≡ zeroPartition p ⌝ }
+fn is_zero_partition(p: Partition) -> bool
+    ensures { λ r. ⌜ r ≡ isZeroPartition p ⌝ }
 {
     let base = p.base;
     let layout = p.layout;
@@ -83,14 +83,14 @@ fn zero_partition(p: Partition) -> bool
         & (p.quantum == 0)
 }
 
-fn zero_state(s: State) -> bool
-    ensures { λ r. ⌜ r ≡ zeroState s ⌝ }
+fn is_zero_state(s: State) -> bool
+    ensures { λ r. ⌜ r ≡ isZeroState s ⌝ }
 {
     let cpu = s.cpu;
     let registers = cpu.registers;
     let returns = cpu.returns;
-    let no_registers = zero_bytes(&registers);
-    let no_returns = zero_words(&returns);
+    let no_registers = all_zero_bytes(&registers);
+    let no_returns = all_zero_u16s(&returns);
     (s.status == 0)
         & (s.filled == 0)
         & (s.read == 0)
@@ -107,12 +107,13 @@ fn slot_sound(size: u32, s: Slot) -> bool
 {
     let p = s.partition;
     let state = s.state;
-    zero_partition(p) & zero_state(state) | partition_sound(size, p) & state_sound(p.layout, state)
+    is_zero_partition(p) & is_zero_state(state)
+        | partition_sound(size, p) & state_sound(p.layout, state)
 }
 
 // Whether two partitions do not meet.
 fn are_apart(p: Partition, q: Partition) -> bool
-    ensures { λ r. ⌜ r ≡ apart p q ⌝ }
+    ensures { λ r. ⌜ r ≡ areApart p q ⌝ }
 {
     let base = p.base;
     let start = q.base;
@@ -120,15 +121,15 @@ fn are_apart(p: Partition, q: Partition) -> bool
 }
 
 // Whether `p` meets the partition of no slot but one.
-pub(crate) fn clear_of_others(table: Table, but: usize, p: Partition) -> bool
-    ensures { λ r. ⌜ r ≡ clearOfOthers table but p ⌝ }
+pub(crate) fn clear_of_others(table: Table, except: usize, p: Partition) -> bool
+    ensures { λ r. ⌜ r ≡ clearOfOthers table except p ⌝ }
 {
     let mut ok = true;
     let mut j: usize = 0;
     while j < Table::SLOTS {
         let s = table.slots[j];
         let q = s.partition;
-        ok = ok & ((j == but) | are_apart(q, p));
+        ok = ok & ((j == except) | are_apart(q, p));
         j += 1;
     }
     ok

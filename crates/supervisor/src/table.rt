@@ -6,7 +6,7 @@ use common::is_within;
 use cpu::Cpu;
 use cpu::State;
 ghost use mathlib.Core.Path.{_≡_};
-ghost use Rattle.supervisor.specs.Table.{noPartition, partitionEnd, emptySlot, emptyTable, newRefusal, newTable};
+ghost use Rattle.supervisor.specs.Table.{emptyPartition, partitionEnd, emptySlot, emptyTable, newRefusal, newTable};
 
 // What stays of a slot from load to unload (document 01's bay): where its bytes start in memory, how they are divided, and how many
 // steps it takes in a round (document 01's stint).
@@ -18,8 +18,8 @@ pub struct Partition {
 
 impl Partition {
     // No bytes, at 0.
-    fn none() -> Partition
-        ensures { λ p. ⌜ p ≡ noPartition ⌝ }
+    fn empty() -> Partition
+        ensures { λ p. ⌜ p ≡ emptyPartition ⌝ }
     {
         let layout = Layout {
             window: 0,
@@ -54,8 +54,8 @@ impl Slot {
         ensures { λ s. ⌜ s ≡ emptySlot ⌝ }
     {
         Slot {
-            partition: Partition::none(),
-            state: State::at_rest(Cpu::fresh(Address(0))),
+            partition: Partition::empty(),
+            state: State::resting(Cpu::fresh(Address(0))),
         }
     }
 }

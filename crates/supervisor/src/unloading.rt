@@ -12,12 +12,9 @@ ghost use Rattle.supervisor.specs.System.{system};
 pub fn unload(table: Table, memory: &mut [u8], slot: usize) -> Answer
     ensures { λ r. ⌜ outcome (r .refusal) (r .table) (now (memory .exit)) ≡ outcomeOf (calls.change slot calls.unload) (system table (now (memory .entry))) ⌝ }
 {
-    let number = memory_loaded_refusal(table, &memory[..], slot);
-    if number != 0 {
-        return Answer {
-            refusal: number,
-            table,
-        };
+    let refusal = memory_loaded_refusal(table, &memory[..], slot);
+    if refusal != 0 {
+        return Answer { refusal, table };
     }
     let s = table.slots[slot];
     let p = s.partition;

@@ -2,13 +2,13 @@
 use crate::entry::name;
 use crate::entry::wanted_text;
 use crate::printing::print;
-use listing::Listed;
+use listing::ListingResult;
 use slices::front;
 
 // Whether the bench run prints the wanted text; a difference is printed.
 pub(crate) fn same_text(entry: &[u8], file: &[u8]) -> bool {
-    let mut memory = [0u8; Listed::MEMORY_LENGTH];
-    let mut text = [0u8; Listed::MAX_TEXT];
+    let mut memory = [0u8; ListingResult::MEMORY_LENGTH];
+    let mut text = [0u8; ListingResult::MAX_TEXT];
     let listed = listing::listing(file, &mut memory, &mut text);
     let got = front(&text, listed.length);
     let wanted = wanted_text(entry);

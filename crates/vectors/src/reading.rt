@@ -17,7 +17,7 @@ struct Reading {
     input: usize,
 }
 
-fn wanted(entry: &[u8], file: &[u8]) -> Reading {
+fn wanted_reading(entry: &[u8], file: &[u8]) -> Reading {
     Reading {
         refusal: wanted_refusal(entry),
         parameters: wanted_parameters(entry),
@@ -27,7 +27,7 @@ fn wanted(entry: &[u8], file: &[u8]) -> Reading {
 }
 
 // What the reader answers; the parameters of a refused file are zeros.
-fn answered(file: &[u8]) -> Reading {
+fn reading_of(file: &[u8]) -> Reading {
     let code = pattern::code_body(file).len();
     let input = pattern::input_body(file).len();
     match pattern::read(file) {
@@ -37,8 +37,8 @@ fn answered(file: &[u8]) -> Reading {
             code,
             input,
         },
-        ReadResult::Refused(number) => Reading {
-            refusal: number as u16,
+        ReadResult::Refused(refusal) => Reading {
+            refusal: refusal as u16,
             parameters: pattern::decode_parameters(b""),
             code,
             input,
@@ -81,8 +81,8 @@ fn print_reading(before: &[u8], r: Reading) {
 
 // Whether the file is read as its entry wants; a difference is printed.
 pub(crate) fn same_reading(entry: &[u8], file: &[u8]) -> bool {
-    let want = wanted(entry, file);
-    let got = answered(file);
+    let want = wanted_reading(entry, file);
+    let got = reading_of(file);
     let same = (want.refusal == got.refusal)
         & same_parameters(want.parameters, got.parameters)
         & same_bodies(entry, file);

@@ -2,7 +2,7 @@
 use crate::entry::name;
 use crate::printing::print;
 use crate::printing::print_number;
-use listing::Listed;
+use listing::ListingResult;
 use pattern::Parameters;
 use pattern::ReadResult;
 use pattern::WriteResult;
@@ -31,7 +31,7 @@ pub(crate) fn same_again(entry: &[u8], file: &[u8]) -> bool {
     let ReadResult::Accepted(parameters) = answer else {
         return true;
     };
-    let mut buffer = [0u8; Listed::MAX_FILE];
+    let mut buffer = [0u8; ListingResult::MAX_FILE];
     let length = write_again(file, parameters, &mut buffer);
     let same = check::same(front(&buffer, length), file);
     if !same {

@@ -7,19 +7,19 @@ use Rattle.scripts.proofs.run_all.Statement.{statement}
 use Rattle.scripts.proofs.run_all.Tie as tie
 
 abbrev Inv-loop : tie.InvT-loop
-Inv-loop entries memory₀ tally₀ world₀ at₀ memory tally world at = length memory ≡ length memory₀
+Inv-loop entries memory₀ tally₀ script₀ at₀ memory tally script at = length memory ≡ length memory₀
 
 abbrev μ-loop : tie.MeasureT-loop
-μ-loop entries memory₀ tally₀ world₀ at₀ memory tally world at = 524288 - at
+μ-loop entries memory₀ tally₀ script₀ at₀ memory tally script at = 524288 - at
 
-begun-requires : tie.Need-begun-requires Inv-loop μ-loop
-begun-requires c κs = tt
+begin-script-requires : tie.Need-begin-script-requires Inv-loop μ-loop
+begin-script-requires c κs = tt
 
 loop-holds : tie.Need-loop-holds Inv-loop μ-loop
 loop-holds c = refl
 
 same-length : tie.Need-same-length Inv-loop μ-loop
-same-length c = c .before .before .loop .inv ∙ c .before .before .before .before .before .before .begun .kept .0
+same-length c = c .before .before .loop .inv ∙ c .before .before .before .before .before .before .begin-script .kept .0
 
 returns : tie.Need-returns Inv-loop μ-loop
 returns c = tt
@@ -27,11 +27,11 @@ returns c = tt
 rest-requires : tie.Need-rest-requires Inv-loop μ-loop
 rest-requires c κs = tt
 
-carried-out-requires : tie.Need-carried-out-requires Inv-loop μ-loop
-carried-out-requires c κs = tt
+run-entry-requires : tie.Need-run-entry-requires Inv-loop μ-loop
+run-entry-requires c κs = tt
 
-counted-requires : tie.Need-counted-requires Inv-loop μ-loop
-counted-requires c κs = tt
+count-entry-requires : tie.Need-count-entry-requires Inv-loop μ-loop
+count-entry-requires c κs = tt
 
 print-difference-requires : tie.Need-print-difference-requires Inv-loop μ-loop
 print-difference-requires c κs = tt
@@ -52,10 +52,10 @@ loop-less : tie.Need-loop-less Inv-loop μ-loop
 loop-less c = omega arith
 
 loop-again : tie.Need-loop-again Inv-loop μ-loop
-loop-again c = c .before .before .before .before .before .before .before .carried-out .kept .1 .0 ∙ c .before .before .before .before .before .before .before .before .before .before .before .before .loop .inv
+loop-again c = c .before .before .before .before .before .before .before .run-entry .kept .1 .0 ∙ c .before .before .before .before .before .before .before .before .before .before .before .before .loop .inv
 
 same-length-2 : tie.Need-same-length-2 Inv-loop μ-loop
-same-length-2 c = c .before .loop .inv ∙ c .before .before .before .before .before .begun .kept .0
+same-length-2 c = c .before .loop .inv ∙ c .before .before .before .before .before .begin-script .kept .0
 
 returns-2 : tie.Need-returns-2 Inv-loop μ-loop
 returns-2 c = tt
@@ -66,13 +66,13 @@ run-all-spec =
     (tie.spec
     Inv-loop
     μ-loop
-    begun-requires
+    begin-script-requires
     loop-holds
     same-length
     returns
     rest-requires
-    carried-out-requires
-    counted-requires
+    run-entry-requires
+    count-entry-requires
     print-difference-requires
     add-at
     length-requires

@@ -39,8 +39,8 @@ jump-requires c κs = search needs
 with-counter-requires : tie.Need-with-counter-requires
 with-counter-requires c κs = search needs
 
-going-requires : tie.Need-going-requires
-going-requires c κs = search needs
+running-requires : tie.Need-running-requires
+running-requires c κs = search needs
 
 returns-2 : tie.Need-returns-2
 unfolding branchIfTakenOf ifLocated if_then_else_
@@ -58,7 +58,7 @@ returns-3 c =
     rw (
       sym (c .before .before .before .is-taken .ensures) ∙ c .before .before .if1 .left,
       ← c .before .with-counter .ensures,
-      ← c .going .ensures,
+      ← c .running .ensures,
     )
 
 pub branch-if-taken-spec : {M : Type 1} → statement M
@@ -74,6 +74,6 @@ branch-if-taken-spec =
     is-call-requires
     jump-requires
     with-counter-requires
-    going-requires
+    running-requires
     returns-2
     returns-3)

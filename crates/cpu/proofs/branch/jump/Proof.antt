@@ -10,14 +10,14 @@ call-requires c κs = search needs
 with-counter-requires : tie.Need-with-counter-requires
 with-counter-requires c κs = search needs
 
-going-requires : tie.Need-going-requires
-going-requires c κs = search needs
+running-requires : tie.Need-running-requires
+running-requires c κs = search needs
 
 with-counter-requires-2 : tie.Need-with-counter-requires-2
 with-counter-requires-2 c κs = search needs
 
-going-requires-2 : tie.Need-going-requires-2
-going-requires-2 c κs = search needs
+running-requires-2 : tie.Need-running-requires-2
+running-requires-2 c κs = search needs
 
 returns : tie.Need-returns
 unfolding jumpOf if_then_else_
@@ -26,7 +26,7 @@ returns c =
       c .before .before .before .if1 .taken,
       ← c .before .before .call .ensures,
       ← c .before .with-counter .ensures,
-      ← c .going .ensures,
+      ← c .running .ensures,
     )
 
 returns-2 : tie.Need-returns-2
@@ -35,7 +35,7 @@ returns-2 c =
     rw (
       c .before .before .if1 .left,
       ← c .before .with-counter2 .ensures,
-      ← c .going2 .ensures,
+      ← c .running2 .ensures,
     )
 
 pub jump-spec : {M : Type 1} → statement M
@@ -44,8 +44,8 @@ jump-spec =
     (tie.spec
     call-requires
     with-counter-requires
-    going-requires
+    running-requires
     with-counter-requires-2
-    going-requires-2
+    running-requires-2
     returns
     returns-2)

@@ -17,14 +17,14 @@ return-from-call-requires c κs = search needs
 clear-ii-requires : tie.Need-clear-ii-requires
 clear-ii-requires c κs = search needs
 
-going-requires : tie.Need-going-requires
-going-requires c κs = search needs
+running-requires : tie.Need-running-requires
+running-requires c κs = search needs
 
 advanced-requires : tie.Need-advanced-requires
 advanced-requires c κs = search needs
 
-going-requires-2 : tie.Need-going-requires-2
-going-requires-2 c κs = search needs
+running-requires-2 : tie.Need-running-requires-2
+running-requires-2 c κs = search needs
 
 returns : tie.Need-returns
 unfolding returnEnableOf if_then_else_
@@ -34,7 +34,7 @@ returns c =
       sym (c .before .before .before .before .condition-met .ensures) ∙ c .before .before .before .if1 .taken,
       ← c .before .before .return-from-call .ensures,
       ← c .before .clear-ii .ensures,
-      ← c .going .ensures,
+      ← c .running .ensures,
     )
 
 returns-2 : tie.Need-returns-2
@@ -44,7 +44,7 @@ returns-2 c =
       ← c .before .before .before .before .psl .ensures,
       sym (c .before .before .before .condition-met .ensures) ∙ c .before .before .if1 .left,
       ← c .before .advanced .ensures,
-      ← c .going2 .ensures,
+      ← c .running2 .ensures,
     )
 
 pub return-enable-spec : {M : Type 1} → statement M
@@ -55,8 +55,8 @@ return-enable-spec =
     condition-met-requires
     return-from-call-requires
     clear-ii-requires
-    going-requires
+    running-requires
     advanced-requires
-    going-requires-2
+    running-requires-2
     returns
     returns-2)

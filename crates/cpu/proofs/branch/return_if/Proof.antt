@@ -14,14 +14,14 @@ condition-met-requires c κs = search needs
 return-from-call-requires : tie.Need-return-from-call-requires
 return-from-call-requires c κs = search needs
 
-going-requires : tie.Need-going-requires
-going-requires c κs = search needs
+running-requires : tie.Need-running-requires
+running-requires c κs = search needs
 
 advanced-requires : tie.Need-advanced-requires
 advanced-requires c κs = search needs
 
-going-requires-2 : tie.Need-going-requires-2
-going-requires-2 c κs = search needs
+running-requires-2 : tie.Need-running-requires-2
+running-requires-2 c κs = search needs
 
 returns : tie.Need-returns
 unfolding returnIfOf if_then_else_
@@ -30,7 +30,7 @@ returns c =
       ← c .before .before .before .before .psl .ensures,
       sym (c .before .before .before .condition-met .ensures) ∙ c .before .before .if1 .taken,
       ← c .before .return-from-call .ensures,
-      ← c .going .ensures,
+      ← c .running .ensures,
     )
 
 returns-2 : tie.Need-returns-2
@@ -40,7 +40,7 @@ returns-2 c =
       ← c .before .before .before .before .psl .ensures,
       sym (c .before .before .before .condition-met .ensures) ∙ c .before .before .if1 .left,
       ← c .before .advanced .ensures,
-      ← c .going2 .ensures,
+      ← c .running2 .ensures,
     )
 
 pub return-if-spec : {M : Type 1} → statement M
@@ -50,8 +50,8 @@ return-if-spec =
     psl-requires
     condition-met-requires
     return-from-call-requires
-    going-requires
+    running-requires
     advanced-requires
-    going-requires-2
+    running-requires-2
     returns
     returns-2)

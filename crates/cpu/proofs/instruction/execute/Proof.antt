@@ -49,8 +49,8 @@ enum-told-5 c = search needs
 advanced-requires : tie.Need-advanced-requires
 advanced-requires c κs = search needs
 
-going-requires : tie.Need-going-requires
-going-requires c κs = search needs
+running-requires : tie.Need-running-requires
+running-requires c κs = search needs
 
 enum-told-6 : tie.Need-enum-told-6
 enum-told-6 c = search needs
@@ -58,8 +58,8 @@ enum-told-6 c = search needs
 advanced-requires-2 : tie.Need-advanced-requires-2
 advanced-requires-2 c κs = search needs
 
-ended-requires : tie.Need-ended-requires
-ended-requires c κs = search needs
+step-result-requires : tie.Need-step-result-requires
+step-result-requires c κs = search needs
 
 enum-told-7 : tie.Need-enum-told-7
 enum-told-7 c = search needs
@@ -103,8 +103,8 @@ with-psu-requires c κs = search needs
 advanced-requires-3 : tie.Need-advanced-requires-3
 advanced-requires-3 c κs = search needs
 
-going-requires-2 : tie.Need-going-requires-2
-going-requires-2 c κs = search needs
+running-requires-2 : tie.Need-running-requires-2
+running-requires-2 c κs = search needs
 
 enum-told-10 : tie.Need-enum-told-10
 enum-told-10 c = search needs
@@ -118,8 +118,8 @@ with-psl-requires c κs = search needs
 advanced-requires-4 : tie.Need-advanced-requires-4
 advanced-requires-4 c κs = search needs
 
-going-requires-3 : tie.Need-going-requires-3
-going-requires-3 c κs = search needs
+running-requires-3 : tie.Need-running-requires-3
+running-requires-3 c κs = search needs
 
 enum-told-11 : tie.Need-enum-told-11
 enum-told-11 c = search needs
@@ -320,7 +320,7 @@ returns-6 c =
     rw (
       c .before .before .enum-told5 .given .1,
       ← c .before .advanced .ensures,
-      ← c .going .ensures,
+      ← c .running .ensures,
     )
 
 returns-7 : tie.Need-returns-7
@@ -329,7 +329,7 @@ returns-7 c =
     rw (
       c .before .before .enum-told6 .given .1,
       ← c .before .advanced2 .ensures,
-      ← c .ended .ensures,
+      ← c .step-result .ensures,
     )
 
 returns-8 : tie.Need-returns-8
@@ -362,7 +362,7 @@ returns-10 c =
       ← c .before .before .before .stored-psu .ensures,
       ← c .before .before .with-psu .ensures,
       ← c .before .advanced3 .ensures,
-      ← c .going2 .ensures,
+      ← c .running2 .ensures,
     )
 
 returns-11 : tie.Need-returns-11
@@ -373,7 +373,7 @@ returns-11 c =
       ← c .before .before .before .register3 .ensures,
       ← c .before .before .with-psl .ensures,
       ← c .before .advanced4 .ensures,
-      ← c .going3 .ensures,
+      ← c .running3 .ensures,
     )
 
 returns-12 : tie.Need-returns-12
@@ -559,10 +559,10 @@ execute-spec =
     register-changed-requires
     enum-told-5
     advanced-requires
-    going-requires
+    running-requires
     enum-told-6
     advanced-requires-2
-    ended-requires
+    step-result-requires
     enum-told-7
     psu-with-sense-requires
     psl-requires-2
@@ -577,12 +577,12 @@ execute-spec =
     stored-psu-requires
     with-psu-requires
     advanced-requires-3
-    going-requires-2
+    running-requires-2
     enum-told-10
     register-requires-3
     with-psl-requires
     advanced-requires-4
-    going-requires-3
+    running-requires-3
     enum-told-11
     clear-psu-requires
     enum-told-12

@@ -1,5 +1,5 @@
 use Rattle.cpu.specs.Address.{ifFetched}
-use Rattle.cpu.specs.Instruction.{stepOf}
+use Rattle.cpu.specs.Instruction.{instructionStep}
 use mathlib.Core.Path.{_∙_, sym}
 use borrow.Author.Needs.{needs}
 use Rattle.cpu.proofs.instruction.step.Statement.{statement}
@@ -21,7 +21,7 @@ stopped-requires : tie.Need-stopped-requires
 stopped-requires c κs = search needs
 
 returns : tie.Need-returns
-unfolding stepOf ifFetched
+unfolding instructionStep ifFetched
 returns c =
     rw (
       ← c .before .before .before .before .counter .ensures,
@@ -36,7 +36,7 @@ execute-requires : tie.Need-execute-requires
 execute-requires c κs = search needs
 
 returns-2 : tie.Need-returns-2
-unfolding stepOf ifFetched
+unfolding instructionStep ifFetched
 returns-2 c =
     rw (
       ← c .before .before .before .before .before .before .counter .ensures,

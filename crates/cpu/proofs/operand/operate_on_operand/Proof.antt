@@ -49,8 +49,8 @@ cast-t15 c = search needs
 cast-t16 : tie.Need-cast-t16
 cast-t16 c = search needs
 
-ended-requires : tie.Need-ended-requires
-ended-requires c κs = search needs
+step-result-requires : tie.Need-step-result-requires
+step-result-requires c κs = search needs
 
 returns-2 : tie.Need-returns-2
 unfolding operateOnOperandOf
@@ -71,7 +71,7 @@ returns-3 c =
       c .before .before .before .enum-told2 .given .1,
       ← c .before .before .before .before .before .data-register .ensures .0,
       ← c .before .before .register .ensures,
-      ← stored-byte e (c .ended .ensures),
+      ← stored-byte e (c .step-result .ensures),
     )
 
 pub operate-on-operand-spec : {M : Type 1} → statement M
@@ -90,6 +90,6 @@ operate-on-operand-spec =
     register-requires
     cast-t15
     cast-t16
-    ended-requires
+    step-result-requires
     returns-2
     returns-3)

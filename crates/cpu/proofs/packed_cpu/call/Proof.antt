@@ -1,4 +1,4 @@
-use Rattle.cpu.specs.Cpu.{calledOf}
+use Rattle.cpu.specs.Cpu.{callOf}
 use borrow.Author.Needs.{needs}
 use Rattle.cpu.proofs.packed_cpu.call.Statement.{statement}
 use Rattle.cpu.proofs.packed_cpu.call.Tie as tie
@@ -22,7 +22,7 @@ with-psu-requires : tie.Need-with-psu-requires
 with-psu-requires c κs = search needs
 
 returns : tie.Need-returns
-unfolding calledOf
+unfolding callOf
 returns c =
     rw (
       ← c .before .before .psu .ensures,

@@ -1,4 +1,4 @@
-use Rattle.cpu.proofs.PackedCpuLaws.{list-eight, list-seven, packed, returns-packed}
+use Rattle.cpu.proofs.PackedCpuLaws.{return-list-elements, register-list-elements, pack-law, returns-packed}
 use lib.ListN.{length, length-map}
 use mathlib.Core.Path.{_∙_, _≡_, refl, sym}
 use borrow.Author.Needs.{needs}
@@ -73,15 +73,15 @@ returns c = let start = c .before .before .before .before .before .before .befor
     let m = start .args .t1 in
     let e : length (m .registers) ≡ 7 = sym (length-map (m .registers) _) ∙ start .good .0 .1 .1 .1 .0 .1 .0 .1 in
     let f : length (m .returns) ≡ 8 = sym (length-map (m .returns) _) ∙ start .good .0 .1 .1 .1 .1 .1 .1 .0 .1 .0 .1 in
-    packed
+    pack-law
     (record { counter = 0; psu = 0; psl = 0; registers = c .before .before .before .before .before .before .before .before .before .before .before .before .before .pack-registers .result; low = c .before .before .before .before .before .before .before .before .pack-returns .result; high = c .before .before .before .pack-returns2 .result })
     _
     _
     _
     m
     refl
-    (c .before .before .before .before .before .before .before .before .before .before .before .before .before .pack-registers .ensures ∙ list-seven (m .registers) e)
-    (returns-packed _ _ (c .before .before .before .before .before .before .before .before .pack-returns .ensures .0) (c .before .before .before .before .before .before .before .before .pack-returns .ensures .1 .0) (c .before .before .before .before .before .before .before .before .pack-returns .ensures .1 .1 .0) (c .before .before .before .before .before .before .before .before .pack-returns .ensures .1 .1 .1) (c .before .before .before .pack-returns2 .ensures .0) (c .before .before .before .pack-returns2 .ensures .1 .0) (c .before .before .before .pack-returns2 .ensures .1 .1 .0) (c .before .before .before .pack-returns2 .ensures .1 .1 .1) ∙ list-eight (m .returns) f)
+    (c .before .before .before .before .before .before .before .before .before .before .before .before .before .pack-registers .ensures ∙ register-list-elements (m .registers) e)
+    (returns-packed _ _ (c .before .before .before .before .before .before .before .before .pack-returns .ensures .0) (c .before .before .before .before .before .before .before .before .pack-returns .ensures .1 .0) (c .before .before .before .before .before .before .before .before .pack-returns .ensures .1 .1 .0) (c .before .before .before .before .before .before .before .before .pack-returns .ensures .1 .1 .1) (c .before .before .before .pack-returns2 .ensures .0) (c .before .before .before .pack-returns2 .ensures .1 .0) (c .before .before .before .pack-returns2 .ensures .1 .1 .0) (c .before .before .before .pack-returns2 .ensures .1 .1 .1) ∙ return-list-elements (m .returns) f)
     (c .before .before .with-counter .ensures)
     (c .before .with-psu .ensures)
     (c .with-psl .ensures)

@@ -1,4 +1,4 @@
-use Rattle.cpu.proofs.PackedCpuLaws.{unswapped-below, unswapped-top, swapped-below, swapped-top}
+use Rattle.cpu.proofs.PackedCpuLaws.{unswapped-registers, unswapped-psu, swapped-registers, swapped-psu}
 use Rattle.common.specs.Choice.{if_then_else_}
 use Rattle.cpu.specs.PackedCpu.{inBankOrder}
 use Prim.Native.Nat.{_%_, _/_}
@@ -43,10 +43,10 @@ add-result-4 c = search needs
 
 returns : tie.Need-returns
 unfolding inBankOrder if_then_else_
-returns c = (rw (← c .before .before .psl .ensures, c .if1 .taken) (unswapped-below _ _), unswapped-top _ _ (c .before .psu .ok) ∙ c .before .psu .ensures)
+returns c = (rw (← c .before .before .psl .ensures, c .if1 .taken) (unswapped-registers _ _), unswapped-psu _ _ (c .before .psu .ok) ∙ c .before .psu .ensures)
 
 returns-2 : tie.Need-returns-2
-returns-2 c = let e : c .before .before .psl .result / 16 % 2 ≡ 1 = omega (arith, c .if1 .left) in (rw (← c .before .before .psl .ensures, e) (swapped-below _ _), swapped-top _ _ (c .before .psu .ok) ∙ c .before .psu .ensures)
+returns-2 c = let e : c .before .before .psl .result / 16 % 2 ≡ 1 = omega (arith, c .if1 .left) in (rw (← c .before .before .psl .ensures, e) (swapped-registers _ _), swapped-psu _ _ (c .before .psu .ok) ∙ c .before .psu .ensures)
 
 pub registers-and-psu-spec : {M : Type 1} → statement M
 registers-and-psu-spec =

@@ -1,4 +1,4 @@
-use Rattle.cpu.specs.Cpu.{returnedOf}
+use Rattle.cpu.specs.Cpu.{returnFromCallOf}
 use borrow.Author.Needs.{needs}
 use Rattle.cpu.proofs.packed_cpu.return_from_call.Statement.{statement}
 use Rattle.cpu.proofs.packed_cpu.return_from_call.Tie as tie
@@ -25,7 +25,7 @@ with-psu-requires : tie.Need-with-psu-requires
 with-psu-requires c κs = search needs
 
 returns : tie.Need-returns
-unfolding returnedOf
+unfolding returnFromCallOf
 returns c =
     rw (
       ← c .before .before .before .psu .ensures,

@@ -1,4 +1,4 @@
-use Rattle.cpu.proofs.PackedCpuLaws.{swapped-law}
+use Rattle.cpu.proofs.PackedCpuLaws.{swap-banks-law}
 use borrow.Author.Needs.{needs}
 use Rattle.cpu.proofs.packed_cpu.swap_banks.Statement.{statement}
 use Rattle.cpu.proofs.packed_cpu.swap_banks.Tie as tie
@@ -16,7 +16,7 @@ add-result-2 : tie.Need-add-result-2
 add-result-2 c = search needs
 
 returns : tie.Need-returns
-returns c = swapped-law _
+returns c = swap-banks-law _
 
 pub swap-banks-spec : {M : Type 1} → statement M
 swap-banks-spec = tie.close (tie.spec mul-result add-result mul-result-2 add-result-2 returns)

@@ -23,7 +23,7 @@ returns : tie.Need-returns
 unfolding boundsOf
 returns c = let start = c .before .before .before in let w = start .fits .window .fits in let i = start .fits .input .fits in let o = start .fits .output .fits in let f = start .fits .filled .fits in (
   rw (← c .before .before .min .ensures .0, ← c .before .min2 .ensures .0, ← c .min3 .ensures .0),
-  record { window-end = c .before .before .min .ensures .0; input-end = c .before .min2 .ensures .0; output-end = c .min3 .ensures .0; input-start = omega arith; output-start = omega arith; wide = omega arith; end = omega arith; long = omega arith; filled = omega arith },
+  record { window-end = c .before .before .min .ensures .0; input-end = c .before .min2 .ensures .0; output-end = c .min3 .ensures .0; input-start = omega arith; output-start = omega arith; input-size = omega arith; end = omega arith; output-size = omega arith; filled = omega arith },
 )
 
 pub bounds-of-spec : {M : Type 1} → statement M

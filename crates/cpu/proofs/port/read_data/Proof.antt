@@ -20,8 +20,8 @@ with-alu-result-requires c κs = search needs
 advanced-requires : tie.Need-advanced-requires
 advanced-requires c κs = search needs
 
-ended-requires : tie.Need-ended-requires
-ended-requires c κs = search needs
+step-result-requires : tie.Need-step-result-requires
+step-result-requires c κs = search needs
 
 stopped-requires : tie.Need-stopped-requires
 stopped-requires c κs = search needs
@@ -36,7 +36,7 @@ returns c =
       ← c .before .before .before .load-result .ensures .0,
       ← c .before .before .with-alu-result .ensures,
       ← c .before .advanced .ensures,
-      ← c .ended .ensures,
+      ← c .step-result .ensures,
     )
 
 returns-2 : tie.Need-returns-2
@@ -56,7 +56,7 @@ read-data-spec =
     load-result-requires
     with-alu-result-requires
     advanced-requires
-    ended-requires
+    step-result-requires
     stopped-requires
     returns
     returns-2)

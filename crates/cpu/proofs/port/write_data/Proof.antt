@@ -21,8 +21,8 @@ advanced-requires c κs = search needs
 cast-t9 : tie.Need-cast-t9
 cast-t9 c = search needs
 
-ended-requires : tie.Need-ended-requires
-ended-requires c κs = search needs
+step-result-requires : tie.Need-step-result-requires
+step-result-requires c κs = search needs
 
 returns : tie.Need-returns
 unfolding writeDataOf portsOfView if_then_else_
@@ -40,7 +40,7 @@ returns-2 c =
       c .before .before .before .if1 .left,
       ← c .before .before .register .ensures,
       ← c .before .advanced .ensures,
-      ← put-byte-out e (c .ended .ensures),
+      ← put-byte-out e (c .step-result .ensures),
     )
 
 pub write-data-spec : {M : Type 1} → statement M
@@ -51,6 +51,6 @@ write-data-spec =
     register-requires
     advanced-requires
     cast-t9
-    ended-requires
+    step-result-requires
     returns
     returns-2)

@@ -44,8 +44,8 @@ with-psu-requires c κs = search needs
 advanced-requires : tie.Need-advanced-requires
 advanced-requires c κs = search needs
 
-going-requires : tie.Need-going-requires
-going-requires c κs = search needs
+running-requires : tie.Need-running-requires
+running-requires c κs = search needs
 
 returns-2 : tie.Need-returns-2
 unfolding maskedOf ifFetched
@@ -57,7 +57,7 @@ returns-2 c =
       ← c .before .before .before .stored-psu .ensures,
       ← c .before .before .with-psu .ensures,
       ← c .before .advanced .ensures,
-      ← c .going .ensures,
+      ← c .running .ensures,
     )
 
 pub clear-psu-spec : {M : Type 1} → statement M
@@ -75,5 +75,5 @@ clear-psu-spec =
     stored-psu-requires
     with-psu-requires
     advanced-requires
-    going-requires
+    running-requires
     returns-2)

@@ -38,8 +38,8 @@ with-psl-requires c κs = search needs
 advanced-requires : tie.Need-advanced-requires
 advanced-requires c κs = search needs
 
-going-requires : tie.Need-going-requires
-going-requires c κs = search needs
+running-requires : tie.Need-running-requires
+running-requires c κs = search needs
 
 returns-2 : tie.Need-returns-2
 unfolding maskedOf ifFetched
@@ -50,7 +50,7 @@ returns-2 c =
       ← c .before .before .before .psl .ensures,
       ← c .before .before .with-psl .ensures,
       ← c .before .advanced .ensures,
-      ← c .going .ensures,
+      ← c .running .ensures,
     )
 
 pub preset-psl-spec : {M : Type 1} → statement M
@@ -66,5 +66,5 @@ preset-psl-spec =
     psl-requires
     with-psl-requires
     advanced-requires
-    going-requires
+    running-requires
     returns-2)

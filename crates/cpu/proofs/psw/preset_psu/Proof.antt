@@ -41,8 +41,8 @@ with-psu-requires c κs = search needs
 advanced-requires : tie.Need-advanced-requires
 advanced-requires c κs = search needs
 
-going-requires : tie.Need-going-requires
-going-requires c κs = search needs
+running-requires : tie.Need-running-requires
+running-requires c κs = search needs
 
 returns-2 : tie.Need-returns-2
 unfolding maskedOf ifFetched
@@ -54,7 +54,7 @@ returns-2 c =
       ← c .before .before .before .stored-psu .ensures,
       ← c .before .before .with-psu .ensures,
       ← c .before .advanced .ensures,
-      ← c .going .ensures,
+      ← c .running .ensures,
     )
 
 pub preset-psu-spec : {M : Type 1} → statement M
@@ -71,5 +71,5 @@ preset-psu-spec =
     stored-psu-requires
     with-psu-requires
     advanced-requires
-    going-requires
+    running-requires
     returns-2)

@@ -44,8 +44,8 @@ with-psl-in-bank-requires c κs = search needs
 advanced-requires : tie.Need-advanced-requires
 advanced-requires c κs = search needs
 
-going-requires : tie.Need-going-requires
-going-requires c κs = search needs
+running-requires : tie.Need-running-requires
+running-requires c κs = search needs
 
 returns-2 : tie.Need-returns-2
 unfolding testedOf maskedOf ifFetched
@@ -58,7 +58,7 @@ returns-2 c =
       ← c .before .before .before .with-cc .ensures .0,
       ← c .before .before .with-psl-in-bank .ensures,
       ← c .before .advanced .ensures,
-      ← c .going .ensures,
+      ← c .running .ensures,
     )
 
 pub tested-spec : {M : Type 1} → statement M
@@ -76,5 +76,5 @@ tested-spec =
     with-cc-requires
     with-psl-in-bank-requires
     advanced-requires
-    going-requires
+    running-requires
     returns-2)

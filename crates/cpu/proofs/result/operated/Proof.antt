@@ -15,8 +15,8 @@ operate-requires c κs = search needs
 with-alu-result-requires : tie.Need-with-alu-result-requires
 with-alu-result-requires c κs = search needs
 
-going-requires : tie.Need-going-requires
-going-requires c κs = search needs
+running-requires : tie.Need-running-requires
+running-requires c κs = search needs
 
 returns : tie.Need-returns
 unfolding operatedOf
@@ -26,7 +26,7 @@ returns c =
       ← c .before .before .before .psl .ensures,
       ← c .before .before .operate .ensures .0,
       ← c .before .with-alu-result .ensures,
-      ← c .going .ensures,
+      ← c .running .ensures,
     )
 
 pub operated-spec : {M : Type 1} → statement M
@@ -37,5 +37,5 @@ operated-spec =
     psl-requires
     operate-requires
     with-alu-result-requires
-    going-requires
+    running-requires
     returns)

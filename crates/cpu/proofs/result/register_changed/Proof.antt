@@ -9,8 +9,8 @@ with-alu-result-requires c κs = search needs
 advanced-requires : tie.Need-advanced-requires
 advanced-requires c κs = search needs
 
-going-requires : tie.Need-going-requires
-going-requires c κs = search needs
+running-requires : tie.Need-running-requires
+running-requires c κs = search needs
 
 returns : tie.Need-returns
 unfolding registerChangedOf
@@ -18,8 +18,8 @@ returns c =
     rw (
       ← c .before .before .with-alu-result .ensures,
       ← c .before .advanced .ensures,
-      ← c .going .ensures,
+      ← c .running .ensures,
     )
 
 pub register-changed-spec : {M : Type 1} → statement M
-register-changed-spec = tie.close (tie.spec with-alu-result-requires advanced-requires going-requires returns)
+register-changed-spec = tie.close (tie.spec with-alu-result-requires advanced-requires running-requires returns)

@@ -16,8 +16,8 @@ returns c = other-length 0 (change (c .before .before .before .before .before .a
 decode-table-requires : tie.Need-decode-table-requires
 decode-table-requires c κs = search needs
 
-location-at-requires : tie.Need-location-at-requires
-location-at-requires c κs = search needs
+clamp-location-requires : tie.Need-clamp-location-requires
+clamp-location-requires c κs = search needs
 
 load-requires : tie.Need-load-requires
 load-requires c κs = search needs
@@ -35,7 +35,7 @@ same-length-2 : tie.Need-same-length-2
 same-length-2 c = search needs
 
 returns-2 : tie.Need-returns-2
-returns-2 c = call-stored (change (c .before .before .before .before .before .before .before .before .before .before .before .before .before .before .before .before .before .args .slot) (load (record { 0 = c .before .before .before .before .before .before .before .before .before .before .before .before .before .before .before .before .before .args .location }) (now (c .before .before .before .before .before .before .before .before .before .before .before .before .before .before .before .before .before .args .file)))) (now (c .before .before .before .before .before .before .before .before .before .before .before .before .before .before .before .before .before .args .table)) (now (c .before .before .before .before .before .before .before .before .before .before .before .before .before .before .before .before .before .args .memory)) (c .before .before .before .before .before .before .before .before .before .before .before .decode-table .result) (c .before .before .before .before .before .before .before .before .load .result .refusal) (c .before .before .before .before .before .before .before .before .load .result .table) _ (c .before .before .before .before .before .before .before .before .before .before .before .before .before .if1 .left) (c .before .before .before .before .before .before .before .before .before .before .before .decode-table .ensures) (c .before .before .before .before .before .before .before .before .load .ensures ∙ place-same (system (c .before .before .before .before .before .before .before .before .before .before .before .decode-table .result) (now (c .before .before .before .before .before .before .before .before .before .before .before .before .before .before .before .before .before .args .memory))) (c .before .before .before .before .before .before .before .before .before .before .before .before .before .before .before .before .before .args .slot) (c .before .before .before .before .before .before .before .before .before .before .before .before .before .before .before .before .before .args .location) (c .before .before .before .before .before .before .before .before .before .location-at .result) (now (c .before .before .before .before .before .before .before .before .before .before .before .before .before .before .before .before .before .args .file)) (c .before .before .before .before .before .before .before .before .before .location-at .ensures)) 0 _ _ refl (c .answer2 .ensures) (c .before .before .before .store-accepted .ensures)
+returns-2 c = call-stored (change (c .before .before .before .before .before .before .before .before .before .before .before .before .before .before .before .before .before .args .slot) (load (record { 0 = c .before .before .before .before .before .before .before .before .before .before .before .before .before .before .before .before .before .args .location }) (now (c .before .before .before .before .before .before .before .before .before .before .before .before .before .before .before .before .before .args .file)))) (now (c .before .before .before .before .before .before .before .before .before .before .before .before .before .before .before .before .before .args .table)) (now (c .before .before .before .before .before .before .before .before .before .before .before .before .before .before .before .before .before .args .memory)) (c .before .before .before .before .before .before .before .before .before .before .before .decode-table .result) (c .before .before .before .before .before .before .before .before .load .result .refusal) (c .before .before .before .before .before .before .before .before .load .result .table) _ (c .before .before .before .before .before .before .before .before .before .before .before .before .before .if1 .left) (c .before .before .before .before .before .before .before .before .before .before .before .decode-table .ensures) (c .before .before .before .before .before .before .before .before .load .ensures ∙ place-same (system (c .before .before .before .before .before .before .before .before .before .before .before .decode-table .result) (now (c .before .before .before .before .before .before .before .before .before .before .before .before .before .before .before .before .before .args .memory))) (c .before .before .before .before .before .before .before .before .before .before .before .before .before .before .before .before .before .args .slot) (c .before .before .before .before .before .before .before .before .before .before .before .before .before .before .before .before .before .args .location) (c .before .before .before .before .before .before .before .before .before .clamp-location .result) (now (c .before .before .before .before .before .before .before .before .before .before .before .before .before .before .before .before .before .args .file)) (c .before .before .before .before .before .before .before .before .before .clamp-location .ensures)) 0 _ _ refl (c .answer2 .ensures) (c .before .before .before .store-accepted .ensures)
 
 pub pf-load-spec : {M : Type 1} → statement M
 pf-load-spec =
@@ -44,7 +44,7 @@ pf-load-spec =
     answer-requires
     returns
     decode-table-requires
-    location-at-requires
+    clamp-location-requires
     load-requires
     store-accepted-requires
     answer-requires-2

@@ -1,5 +1,5 @@
 -- `host::table_encoding::decode_partition`: each field is read where the definition reads it.
-use Rattle.host.specs.TableEncoding.{partitionAt}
+use Rattle.host.specs.TableEncoding.{partitionFromBytes}
 use borrow.Author.Needs.{needs}
 use Rattle.host.proofs.table_encoding.decode_partition.Statement.{statement}
 use Rattle.host.proofs.table_encoding.decode_partition.Tie as tie
@@ -20,7 +20,7 @@ byte-requires : tie.Need-byte-requires
 byte-requires c κs = search needs
 
 returns : tie.Need-returns
-unfolding partitionAt
+unfolding partitionFromBytes
 returns c = rw (c .before .before .before .before .u32-at .ensures, c .before .before .before .u16-at .ensures, c .before .before .u16-at2 .ensures, c .before .u16-at3 .ensures, c .byte .ensures)
 
 pub decode-partition-spec : {M : Type 1} → statement M

@@ -1,5 +1,5 @@
 -- `host::table_encoding::decode_slot`: a partition, and the state behind it.
-use Rattle.host.specs.TableEncoding.{slotFrom}
+use Rattle.host.specs.TableEncoding.{slotFromBytes}
 use borrow.Author.Needs.{needs}
 use Rattle.host.proofs.table_encoding.decode_slot.Statement.{statement}
 use Rattle.host.proofs.table_encoding.decode_slot.Tie as tie
@@ -13,12 +13,19 @@ decode-partition-requires c κs = search needs
 rest-requires : tie.Need-rest-requires
 rest-requires c κs = search needs
 
-decode-requires : tie.Need-decode-requires
-decode-requires c κs = search needs
+decode-state-requires : tie.Need-decode-state-requires
+decode-state-requires c κs = search needs
 
 returns : tie.Need-returns
-unfolding slotFrom
-returns c = rw (← c .before .before .before .part .ensures, ← c .before .before .decode-partition .ensures, ← c .before .rest .ensures, ← c .decode .ensures)
+unfolding slotFromBytes
+returns c = rw (← c .before .before .before .part .ensures, ← c .before .before .decode-partition .ensures, ← c .before .rest .ensures, ← c .decode-state .ensures)
 
 pub decode-slot-spec : {M : Type 1} → statement M
-decode-slot-spec = tie.close (tie.spec part-requires decode-partition-requires rest-requires decode-requires returns)
+decode-slot-spec =
+    tie.close
+    (tie.spec
+    part-requires
+    decode-partition-requires
+    rest-requires
+    decode-state-requires
+    returns)

@@ -3,13 +3,13 @@ use Prim.Native.Nat.{_+_, _*_, _-_}
 use lib.ListN.{length-replicate}
 use Rattle.slices.specs.PieceLaws.{TabulatedTo, tabulated-none, tabulated-next, tabulated-all}
 use Rattle.slices.specs.Slices.{partOf}
-use Rattle.host.specs.TableEncoding.{slotLength, slotsOffset, slotFrom, tableAt}
+use Rattle.host.specs.TableEncoding.{slotLength, slotsOffset, slotFromBytes, tableFromBytes}
 use borrow.Author.Needs.{needs}
 use Rattle.host.proofs.table_encoding.decode_table.Statement.{statement}
 use Rattle.host.proofs.table_encoding.decode_table.Tie as tie
 
 abbrev Inv-loop : tie.InvT-loop
-Inv-loop bytes size slots₀ k₀ slots k = TabulatedTo 8 (λ i. slotFrom (partOf bytes (slotsOffset + slotLength * i) slotLength)) k slots
+Inv-loop bytes size slots₀ k₀ slots k = TabulatedTo 8 (λ i. slotFromBytes (partOf bytes (slotsOffset + slotLength * i) slotLength)) k slots
 
 abbrev μ-loop : tie.MeasureT-loop
 μ-loop bytes size slots₀ k₀ slots k = 8 - k
@@ -48,7 +48,7 @@ loop-again : tie.Need-loop-again Inv-loop μ-loop
 loop-again c = tabulated-next _ _ (c .before .before .loop .k) _ (c .before .before .loop .inv) _ (c .before .loop-test .taken) (c .decode-slot2 .ensures)
 
 returns : tie.Need-returns Inv-loop μ-loop
-unfolding tableAt
+unfolding tableFromBytes
 returns c = rw (c .before .before .before .u32-at .ensures, tabulated-all _ _ (c .before .loop .k) _ (c .before .loop .inv) (c .loop-test .left))
 
 pub decode-table-spec : {M : Type 1} → statement M

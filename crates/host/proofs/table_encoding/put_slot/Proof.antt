@@ -16,8 +16,8 @@ use Rattle.host.proofs.table_encoding.put_slot.Tie as tie
 put-partition-requires : tie.Need-put-partition-requires
 put-partition-requires c κs = search needs
 
-encode-requires : tie.Need-encode-requires
-encode-requires c κs = search needs
+encode-state-requires : tie.Need-encode-state-requires
+encode-state-requires c κs = search needs
 
 add-copy : tie.Need-add-copy
 add-copy c = search needs
@@ -36,10 +36,10 @@ unfolding slotBytes
 returns c = let a = c .before .before .before .before .before .before .before .before .before .before .before .before .before .args in
     let s = a .slot in
     let room : a .at + slotLength ≤ length (now (a .bytes)) = c .before .before .before .before .before .before .before .before .before .before .before .before .before .pre in
-    let own : length (c .before .before .before .before .before .encode .result) ≡ stateLength = search needs in
-    let n : length (stateBytes (s .state)) ≡ stateLength = sym (ap length (c .before .before .before .before .before .encode .ensures .0)) ∙ own in (
+    let own : length (c .before .before .before .before .before .encode-state .result) ≡ stateLength = search needs in
+    let n : length (stateBytes (s .state)) ≡ stateLength = sym (ap length (c .before .before .before .before .before .encode-state .ensures .0)) ∙ own in (
       copied-next (now (a .bytes)) _ _ (a .at) (a .at + partitionLength) (partitionBytes (s .partition)) (stateBytes (s .state)) (c .before .before .before .before .before .before .before .before .put-partition .ensures)
-          (c .before .before .copy .ensures ∙ ap (copied (c .before .before .before .before .before .before .before .before .put-partition .last .0) (a .at + partitionLength)) (c .before .before .before .before .before .encode .ensures .0))
+          (c .before .before .copy .ensures ∙ ap (copied (c .before .before .before .before .before .before .before .before .put-partition .last .0) (a .at + partitionLength)) (c .before .before .before .before .before .encode-state .ensures .0))
           (ap (λ (i : ℕ). a .at + i) (sym (partition-length (s .partition))))
           (omega (arith, n, partition-length (s .partition), room)),
       length-append (partitionBytes (s .partition)) (stateBytes (s .state)) ∙ (omega (arith, n, partition-length (s .partition))),
@@ -50,7 +50,7 @@ put-slot-spec =
     tie.close
     (tie.spec
     put-partition-requires
-    encode-requires
+    encode-state-requires
     add-copy
     slice-aggregate-copy
     copy-requires

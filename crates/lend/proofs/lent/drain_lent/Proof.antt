@@ -71,7 +71,7 @@ vals = LL.vals S.the-type S′.the-laws
 
 -- the function's answer, of the core's
 abbrev answer : SlotAnswer → LentAnswer
-answer r = r .taken
+answer r = r .drained
 
 abbrev answer-val : SlotAnswer → Val
 answer-val r = LL.val L.the-type L′.the-laws (answer r)

@@ -4,11 +4,11 @@ use borrow.Author.Needs.{needs}
 use Rattle.listing.proofs.text.put_lines.Statement.{statement}
 use Rattle.listing.proofs.text.put_lines.Tie as tie
 
-put-head-requires : tie.Need-put-head-requires
-put-head-requires c κs = search needs
+put-status-and-counter-requires : tie.Need-put-status-and-counter-requires
+put-status-and-counter-requires c κs = search needs
 
-put-values-requires : tie.Need-put-values-requires
-put-values-requires c κs = search needs
+put-psw-and-registers-requires : tie.Need-put-psw-and-registers-requires
+put-psw-and-registers-requires c κs = search needs
 
 slice-aggregate-copy : tie.Need-slice-aggregate-copy
 slice-aggregate-copy c = search needs
@@ -38,14 +38,14 @@ same-length : tie.Need-same-length
 same-length c = search needs
 
 returns : tie.Need-returns
-returns c = let put = lines-put _ _ (c .before .before .before .before .before .before .before .before .before .before .before .before .before .before .before .before .before .before .before .before .before .before .before .before .pre .0) (search needs) _ _ _ _ _ _ (c .before .before .before .before .before .before .before .before .before .before .before .before .before .before .before .before .before .before .before .before .before .before .before .before .pre .1) (c .before .before .before .before .before .before .before .before .before .before .before .before .before .before .before .before .before .before .before .before .put-head .ensures) (c .before .before .before .before .before .before .before .before .before .before .before .before .before .before .before .before .put-values .ensures) (c .before .before .before .before .before .before .before .before .before .before .before .copy .ensures) (c .before .before .before .before .before .before .before .put-fields .ensures) (c .before .before .copy2 .ensures) in (put .0, (put .1, omega arith))
+returns c = let put = lines-put _ _ (c .before .before .before .before .before .before .before .before .before .before .before .before .before .before .before .before .before .before .before .before .before .before .before .before .pre .0) (search needs) _ _ _ _ _ _ (c .before .before .before .before .before .before .before .before .before .before .before .before .before .before .before .before .before .before .before .before .before .before .before .before .pre .1) (c .before .before .before .before .before .before .before .before .before .before .before .before .before .before .before .before .before .before .before .before .put-status-and-counter .ensures) (c .before .before .before .before .before .before .before .before .before .before .before .before .before .before .before .before .put-psw-and-registers .ensures) (c .before .before .before .before .before .before .before .before .before .before .before .copy .ensures) (c .before .before .before .before .before .before .before .put-fields .ensures) (c .before .before .copy2 .ensures) in (put .0, (put .1, omega arith))
 
 pub put-lines-spec : {M : Type 1} → statement M
 put-lines-spec =
     tie.close
     (tie.spec
-    put-head-requires
-    put-values-requires
+    put-status-and-counter-requires
+    put-psw-and-registers-requires
     slice-aggregate-copy
     copy-requires
     put-fields-requires

@@ -7,12 +7,12 @@ use Rattle.loader.proofs.fresh.fresh_state.Tie as tie
 fresh-requires : tie.Need-fresh-requires
 fresh-requires c κs = search needs
 
-at-rest-requires : tie.Need-at-rest-requires
-at-rest-requires c κs = search needs
+resting-requires : tie.Need-resting-requires
+resting-requires c κs = search needs
 
 returns : tie.Need-returns
 unfolding freshState
-returns c = rw (c .at-rest .ensures, c .before .fresh .ensures)
+returns c = rw (c .resting .ensures, c .before .fresh .ensures)
 
 pub fresh-state-spec : {M : Type 1} → statement M
-fresh-state-spec = tie.close (tie.spec fresh-requires at-rest-requires returns)
+fresh-state-spec = tie.close (tie.spec fresh-requires resting-requires returns)

@@ -1,5 +1,5 @@
 -- `pattern::parameters::decode_parameters`: each value is read where the definition reads it.
-use Rattle.pattern.specs.Parameters.{parametersAt}
+use Rattle.pattern.specs.Parameters.{parametersFromBytes}
 use borrow.Author.Needs.{needs}
 use Rattle.pattern.proofs.parameters.decode_parameters.Statement.{statement}
 use Rattle.pattern.proofs.parameters.decode_parameters.Tie as tie
@@ -20,7 +20,7 @@ byte-requires : tie.Need-byte-requires
 byte-requires c κs = search needs
 
 returns : tie.Need-returns
-unfolding parametersAt
+unfolding parametersFromBytes
 returns c = rw (c .before .before .before .before .u16-at .ensures, c .before .before .before .u16-at2 .ensures, c .before .before .u16-at3 .ensures, c .before .u16-at4 .ensures, c .byte .ensures)
 
 pub decode-parameters-spec : {M : Type 1} → statement M

@@ -43,11 +43,11 @@ put-byte-requires c κs = search needs
 
 returns : tie.Need-returns
 unfolding parametersBytes
-returns c = let v = c .before .before .before .before .before .before .before .before .before .before .before .before .before .before .before .before .before .args .v in
+returns c = let p = c .before .before .before .before .before .before .before .before .before .before .before .before .before .before .before .before .before .args .parameters in
     rw (c .before .put-byte .ensures, c .before .before .before .before .put-u164 .ensures, c .before .before .before .before .before .before .before .put-u163 .ensures, c .before .before .before .before .before .before .before .before .before .before .put-u162 .ensures, c .before .before .before .before .before .before .before .before .before .before .before .before .before .put-u16 .ensures)
-    (copied-each ((0, u16Bytes (v .layout .window)) ∷ (2, u16Bytes (v .layout .input)) ∷ (4, u16Bytes (v .layout .output)) ∷ (6, u16Bytes (v .start .0)) ∷ (8, v .quantum ∷ []) ∷ []) (replicate 9 0) 0
+    (copied-each ((0, u16Bytes (p .layout .window)) ∷ (2, u16Bytes (p .layout .input)) ∷ (4, u16Bytes (p .layout .output)) ∷ (6, u16Bytes (p .start .0)) ∷ (8, p .quantum ∷ []) ∷ []) (replicate 9 0) 0
     (refl, (refl, (refl, (refl, (refl, tt))))) (omega arith)
-    ∙ copied-all (replicate 9 0) (parametersBytes v) refl)
+    ∙ copied-all (replicate 9 0) (parametersBytes p) refl)
 
 pub encode-parameters-spec : {M : Type 1} → statement M
 encode-parameters-spec =

@@ -1,25 +1,24 @@
 -- `pattern::reader::read_code`: each return is the first condition that holds.
-use Rattle.common.specs.Choice.{if_then_else_}
 use borrow.Author.Tests.{lt-ltb, le-ltb}
-use Rattle.common.specs.Refusals.{unless}
 use Rattle.pattern.specs.Reader.{codeConditions}
+use Rattle.common.specs.RefusalDefinitions.{condition-definitions}
 use borrow.Author.Needs.{needs}
 use Rattle.pattern.proofs.reader.read_code.Statement.{statement}
 use Rattle.pattern.proofs.reader.read_code.Tie as tie
 
-is-framed-requires : tie.Need-is-framed-requires
-is-framed-requires c κs = search needs
+has-frame-requires : tie.Need-has-frame-requires
+has-frame-requires c κs = search needs
 
 returns : tie.Need-returns
-unfolding unless if_then_else_ codeConditions
-returns c = simp (← c .before .is-framed .ensures, c .if1 .taken)
+unfolding condition-definitions codeConditions
+returns c = simp (← c .before .has-frame .ensures, c .if1 .taken)
 
 body-length-requires : tie.Need-body-length-requires
 body-length-requires c κs = search needs
 
 returns-2 : tie.Need-returns-2
-unfolding unless if_then_else_ codeConditions
-returns-2 c = simp (← c .before .before .before .before .before .is-framed .ensures, c .before .before .before .before .if1 .left, ← c .before .before .body-length .ensures, lt-ltb _ _ (c .if2 .taken))
+unfolding condition-definitions codeConditions
+returns-2 c = simp (← c .before .before .before .before .before .has-frame .ensures, c .before .before .before .before .if1 .left, ← c .before .before .body-length .ensures, lt-ltb _ _ (c .if2 .taken))
 
 body-requires : tie.Need-body-requires
 body-requires c κs = search needs
@@ -28,18 +27,18 @@ ends-in-zero-requires : tie.Need-ends-in-zero-requires
 ends-in-zero-requires c κs = search needs
 
 returns-3 : tie.Need-returns-3
-unfolding unless if_then_else_ codeConditions
-returns-3 c = simp (← c .before .before .before .before .before .before .before .before .is-framed .ensures, c .before .before .before .before .before .before .before .if1 .left, ← c .before .before .before .before .before .body-length .ensures, le-ltb _ _ (c .before .before .before .if2 .left), ← c .before .before .body .ensures, ← c .before .ends-in-zero .ensures, c .if3 .taken)
+unfolding condition-definitions codeConditions
+returns-3 c = simp (← c .before .before .before .before .before .before .before .before .has-frame .ensures, c .before .before .before .before .before .before .before .if1 .left, ← c .before .before .before .before .before .body-length .ensures, le-ltb _ _ (c .before .before .before .if2 .left), ← c .before .before .body .ensures, ← c .before .ends-in-zero .ensures, c .if3 .taken)
 
 returns-4 : tie.Need-returns-4
-unfolding unless if_then_else_ codeConditions
-returns-4 c = simp (← c .before .before .before .before .before .before .before .before .is-framed .ensures, c .before .before .before .before .before .before .before .if1 .left, ← c .before .before .before .before .before .body-length .ensures, le-ltb _ _ (c .before .before .before .if2 .left), ← c .before .before .body .ensures, ← c .before .ends-in-zero .ensures, c .if3 .left)
+unfolding condition-definitions codeConditions
+returns-4 c = simp (← c .before .before .before .before .before .before .before .before .has-frame .ensures, c .before .before .before .before .before .before .before .if1 .left, ← c .before .before .before .before .before .body-length .ensures, le-ltb _ _ (c .before .before .before .if2 .left), ← c .before .before .body .ensures, ← c .before .ends-in-zero .ensures, c .if3 .left)
 
 pub read-code-spec : {M : Type 1} → statement M
 read-code-spec =
     tie.close
     (tie.spec
-    is-framed-requires
+    has-frame-requires
     returns
     body-length-requires
     returns-2

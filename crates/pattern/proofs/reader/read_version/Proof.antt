@@ -1,18 +1,17 @@
 -- `pattern::reader::read_version`: each return is the first condition that holds.
-use Rattle.common.specs.Choice.{if_then_else_}
 use borrow.Author.Tests.{eq-eqb, ne-eqb}
-use Rattle.common.specs.Refusals.{unless}
 use Rattle.pattern.specs.Reader.{versionConditions}
+use Rattle.common.specs.RefusalDefinitions.{condition-definitions}
 use borrow.Author.Needs.{needs}
 use Rattle.pattern.proofs.reader.read_version.Statement.{statement}
 use Rattle.pattern.proofs.reader.read_version.Tie as tie
 
-is-fixed-requires : tie.Need-is-fixed-requires
-is-fixed-requires c κs = search needs
+has-frame-of-length-requires : tie.Need-has-frame-of-length-requires
+has-frame-of-length-requires c κs = search needs
 
 returns : tie.Need-returns
-unfolding unless if_then_else_ versionConditions
-returns c = simp (← c .before .is-fixed .ensures, c .if1 .taken)
+unfolding condition-definitions versionConditions
+returns c = simp (← c .before .has-frame-of-length .ensures, c .if1 .taken)
 
 body-requires : tie.Need-body-requires
 body-requires c κs = search needs
@@ -21,25 +20,25 @@ byte-requires : tie.Need-byte-requires
 byte-requires c κs = search needs
 
 returns-2 : tie.Need-returns-2
-unfolding unless if_then_else_ versionConditions
-returns-2 c = simp (← c .before .before .before .before .is-fixed .ensures, c .before .before .before .if1 .left, ← c .before .before .body .ensures, ← c .before .byte .ensures, ne-eqb _ _ (c .if2 .taken))
+unfolding condition-definitions versionConditions
+returns-2 c = simp (← c .before .before .before .before .has-frame-of-length .ensures, c .before .before .before .if1 .left, ← c .before .before .body .ensures, ← c .before .byte .ensures, ne-eqb _ _ (c .if2 .taken))
 
 byte-requires-2 : tie.Need-byte-requires-2
 byte-requires-2 c κs = search needs
 
 returns-3 : tie.Need-returns-3
-unfolding unless if_then_else_ versionConditions
-returns-3 c = simp (← c .before .before .before .before .before .before .is-fixed .ensures, c .before .before .before .before .before .if1 .left, ← c .before .before .before .before .body .ensures, ← c .before .before .before .byte .ensures, eq-eqb _ _ (c .before .before .if2 .left), ← c .before .byte2 .ensures, ne-eqb _ _ (c .if3 .taken))
+unfolding condition-definitions versionConditions
+returns-3 c = simp (← c .before .before .before .before .before .before .has-frame-of-length .ensures, c .before .before .before .before .before .if1 .left, ← c .before .before .before .before .body .ensures, ← c .before .before .before .byte .ensures, eq-eqb _ _ (c .before .before .if2 .left), ← c .before .byte2 .ensures, ne-eqb _ _ (c .if3 .taken))
 
 returns-4 : tie.Need-returns-4
-unfolding unless if_then_else_ versionConditions
-returns-4 c = simp (← c .before .before .before .before .before .before .is-fixed .ensures, c .before .before .before .before .before .if1 .left, ← c .before .before .before .before .body .ensures, ← c .before .before .before .byte .ensures, eq-eqb _ _ (c .before .before .if2 .left), ← c .before .byte2 .ensures, eq-eqb _ _ (c .if3 .left))
+unfolding condition-definitions versionConditions
+returns-4 c = simp (← c .before .before .before .before .before .before .has-frame-of-length .ensures, c .before .before .before .before .before .if1 .left, ← c .before .before .before .before .body .ensures, ← c .before .before .before .byte .ensures, eq-eqb _ _ (c .before .before .if2 .left), ← c .before .byte2 .ensures, eq-eqb _ _ (c .if3 .left))
 
 pub read-version-spec : {M : Type 1} → statement M
 read-version-spec =
     tie.close
     (tie.spec
-    is-fixed-requires
+    has-frame-of-length-requires
     returns
     body-requires
     byte-requires

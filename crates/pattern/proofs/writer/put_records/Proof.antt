@@ -38,7 +38,7 @@ same-length c = search needs
 returns : tie.Need-returns
 returns c = let a = c .before .before .before .before .before .before .before .before .before .before .before .before .before .before .before .before .before .before .before .before .before .before .before .before .before .before .before .args in
     rw (c .before .before .put-record5 .ensures .1, c .before .before .before .before .before .before .before .put-record4 .ensures .1, c .before .before .before .before .before .before .before .before .before .before .before .put-record3 .ensures .1, c .before .before .before .before .before .before .before .before .before .before .before .before .before .before .before .put-record2 .ensures .1, c .before .before .before .before .before .before .before .before .before .before .before .before .before .before .before .before .before .before .before .before .put-record .ensures .1, c .before .before .before .before .before .before .before .before .before .before .before .before .before .before .before .before .before .before .before .before .before .before .before .encode-parameters .ensures)
-    (five-records (a .v) (now (a .code)) (now (a .input)) (now (a .buffer)) _ _ _ _ (c .before .before .before .before .before .before .before .before .before .before .before .before .before .before .before .before .before .before .before .before .before .before .before .before .before .before .before .pre .1 .1) (c .before .before .before .before .before .before .before .before .before .before .before .before .before .before .before .before .before .before .before .before .put-record .ensures .0) (rw (c .before .before .before .before .before .before .before .before .before .before .before .before .before .before .before .before .before .before .before .before .before .before .before .encode-parameters .ensures) at (c .before .before .before .before .before .before .before .before .before .before .before .before .before .before .before .put-record2 .ensures .0))
+    (five-records (a .parameters) (now (a .code)) (now (a .input)) (now (a .buffer)) _ _ _ _ (c .before .before .before .before .before .before .before .before .before .before .before .before .before .before .before .before .before .before .before .before .before .before .before .before .before .before .before .pre .1 .1) (c .before .before .before .before .before .before .before .before .before .before .before .before .before .before .before .before .before .before .before .before .put-record .ensures .0) (rw (c .before .before .before .before .before .before .before .before .before .before .before .before .before .before .before .before .before .before .before .before .before .before .before .encode-parameters .ensures) at (c .before .before .before .before .before .before .before .before .before .before .before .before .before .before .before .put-record2 .ensures .0))
     (c .before .before .before .before .before .before .before .before .before .before .before .put-record3 .ensures .0) (c .before .before .before .before .before .before .before .put-record4 .ensures .0))
 
 pub put-records-spec : {M : Type 1} → statement M

@@ -71,7 +71,7 @@ vals = LL.vals S.the-type S′.the-laws
 
 -- the function's answer, of the callee's and of the slot that comes back
 abbrev answer : LentAnswer → Slot → SlotAnswer
-answer r s = record { taken = r; slot = s }
+answer r s = record { drained = r; slot = s }
 
 abbrev answer-val : LentAnswer → Slot → Val
 answer-val r s = LL.val D.the-type D′.the-laws (answer r s)

@@ -1,16 +1,15 @@
 -- `supervisor::conditions::loaded_refusal`: the conditions in the order of the table.
 use native.Mathlib.Omega.{arith}
 use borrow.Author.Tests.{eq-eqb, ne-eqb, lt-ltb, le-ltb}
-use Rattle.common.specs.Choice.{if_then_else_}
-use Rattle.common.specs.Refusals.{unless, refusalBy}
 use Rattle.supervisor.specs.Conditions.{loadedConditions}
 use Rattle.supervisor.specs.Table.{slotAt}
+use Rattle.common.specs.RefusalDefinitions.{condition-definitions}
 use borrow.Author.Needs.{needs}
 use Rattle.supervisor.proofs.conditions.loaded_refusal.Statement.{statement}
 use Rattle.supervisor.proofs.conditions.loaded_refusal.Tie as tie
 
 returns : tie.Need-returns
-unfolding refusalBy unless if_then_else_ loadedConditions
+unfolding condition-definitions loadedConditions
 returns c = rw (lt-ltb 7 (c .before .args .slot) (c .if1 .taken))
 
 mul-s : tie.Need-mul-s
@@ -20,11 +19,11 @@ element-copy-out-s : tie.Need-element-copy-out-s
 element-copy-out-s c = search needs
 
 returns-2 : tie.Need-returns-2
-unfolding refusalBy unless if_then_else_ loadedConditions slotAt
+unfolding condition-definitions loadedConditions slotAt
 returns-2 c = rw (le-ltb 7 (c .before .before .before .before .before .args .slot) (omega arith), eq-eqb _ _ (c .if2 .taken))
 
 returns-3 : tie.Need-returns-3
-unfolding refusalBy unless if_then_else_ loadedConditions slotAt
+unfolding condition-definitions loadedConditions slotAt
 returns-3 c = rw (le-ltb 7 (c .before .before .before .before .before .args .slot) (omega arith), ne-eqb _ _ (c .if2 .left))
 
 pub loaded-refusal-spec : {M : Type 1} → statement M

@@ -1,11 +1,10 @@
 -- `supervisor::conditions::memory_refusal`: the table's conditions first, then the memory's length.
 use mathlib.Core.Path.{sym, _∙_}
 use borrow.Author.Tests.{eq-eqb, ne-eqb}
-use Rattle.common.specs.Choice.{if_then_else_}
-use Rattle.common.specs.Refusals.{unless, refusalBy}
 use Rattle.common.specs.RefusalLaws.{refused-by-front, left-to-rest}
 use Rattle.supervisor.specs.ConditionLaws.{table-numbered}
 use Rattle.supervisor.specs.Conditions.{tableConditions, memoryConditions}
+use Rattle.common.specs.RefusalDefinitions.{condition-definitions}
 use borrow.Author.Needs.{needs}
 use Rattle.supervisor.proofs.conditions.memory_refusal.Statement.{statement}
 use Rattle.supervisor.proofs.conditions.memory_refusal.Tie as tie
@@ -21,11 +20,11 @@ cast-if2 : tie.Need-cast-if2
 cast-if2 c = search needs
 
 returns-2 : tie.Need-returns-2
-unfolding refusalBy unless if_then_else_ memoryConditions
+unfolding condition-definitions memoryConditions
 returns-2 c = sym (left-to-rest (tableConditions (c .before .before .before .before .before .args .table)) _ (table-numbered (c .before .before .before .before .before .args .table)) (c .before .before .before .table-refusal .ensures) (c .before .before .if1 .left) ∙ rw (ne-eqb _ _ (c .if2 .taken)))
 
 returns-3 : tie.Need-returns-3
-unfolding refusalBy unless if_then_else_ memoryConditions
+unfolding condition-definitions memoryConditions
 returns-3 c = sym (left-to-rest (tableConditions (c .before .before .before .before .before .args .table)) _ (table-numbered (c .before .before .before .before .before .args .table)) (c .before .before .before .table-refusal .ensures) (c .before .before .if1 .left) ∙ rw (eq-eqb _ _ (c .if2 .left)))
 
 pub memory-refusal-spec : {M : Type 1} → statement M

@@ -1,7 +1,6 @@
 -- `supervisor::conditions::table_refusal`: by its two branches.
-use Rattle.common.specs.Choice.{if_then_else_}
-use Rattle.common.specs.Refusals.{unless, refusalBy}
 use Rattle.supervisor.specs.Conditions.{tableConditions}
+use Rattle.common.specs.RefusalDefinitions.{condition-definitions}
 use borrow.Author.Needs.{needs}
 use Rattle.supervisor.proofs.conditions.table_refusal.Statement.{statement}
 use Rattle.supervisor.proofs.conditions.table_refusal.Tie as tie
@@ -10,11 +9,11 @@ table-sound-requires : tie.Need-table-sound-requires
 table-sound-requires c κs = search needs
 
 returns : tie.Need-returns
-unfolding refusalBy unless if_then_else_ tableConditions
+unfolding condition-definitions tableConditions
 returns c = rw (← c .before .table-sound .ensures, c .if1 .taken)
 
 returns-2 : tie.Need-returns-2
-unfolding refusalBy unless if_then_else_ tableConditions
+unfolding condition-definitions tableConditions
 returns-2 c = rw (← c .before .table-sound .ensures, c .if1 .left)
 
 pub table-refusal-spec : {M : Type 1} → statement M

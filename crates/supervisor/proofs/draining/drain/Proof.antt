@@ -6,15 +6,15 @@ use borrow.Author.Tests.{eq-eqb, ne-eqb}
 use denote.Ref.{now}
 use Rattle.common.specs.Choice.{if_then_else_}
 use Rattle.slices.specs.SliceLaws.{copied-none}
-use Rattle.supervisor.specs.Calls.{afterAccepted, patchOf, drainedCount, drainedBuffer}
+use Rattle.supervisor.specs.Calls.{drainedCount, drainedBuffer}
 use Rattle.supervisor.specs.Calls as calls
 use Rattle.supervisor.specs.ChangeLaws.{drain-accepted}
-use Rattle.supervisor.specs.System.{patched}
 use Rattle.supervisor.specs.Draining.{drainPatch}
-use Rattle.supervisor.specs.Table.{slotAt, withSlot}
+use Rattle.supervisor.specs.Table.{slotAt}
 use Rattle.supervisor.proofs.LoadedSlotLaws.{loaded-end}
 use Rattle.supervisor.proofs.DrainingLaws.{drained-buffer}
 use Rattle.supervisor.specs.OutcomeLaws.{refused-outcome, accepted-outcome}
+use Rattle.supervisor.specs.CallDefinitions.{patch-definitions}
 use borrow.Author.Needs.{needs}
 use Rattle.supervisor.proofs.draining.drain.Statement.{statement}
 use Rattle.supervisor.proofs.draining.drain.Tie as tie
@@ -73,7 +73,7 @@ same-length : tie.Need-same-length
 same-length c = search needs
 
 returns-2 : tie.Need-returns-2
-unfolding afterAccepted patchOf patched drainPatch drainedCount withSlot slotAt if_then_else_
+unfolding patch-definitions drainPatch drainedCount if_then_else_
 returns-2 c =
     let start = c .before .before .before .before .before .before .before .before .before .before .before .before .before .before .before .before .args in
     (accepted-outcome (calls.change (start .slot) (calls.drain (length (now (start .buffer))))) _ _ _ (c .before .before .before .before .before .before .before .before .before .before .before .before .before .drain-refusal .ensures) (c .before .before .before .before .before .before .before .before .before .before .before .before .if1 .left) (rw (c .drained-state .ensures, copied-none)), (rw (← c .before .before .before .before .before .before .before .before .before .before .before .before .before .drain-refusal .ensures, eq-eqb _ _ (c .before .before .before .before .before .before .before .before .before .before .before .before .if1 .left)), c .before .before .before .copy .ensures ∙ rw (c .before .before .before .before .part .ensures, c .before .before .before .before .before .before .before .output-location .ensures) (drained-buffer _ (start .slot) (now (start .buffer)) (c .before .before .before .before .before .before .before .before .before .before .before .before .before .drain-refusal .ensures) (c .before .before .before .before .before .before .before .before .before .before .before .before .if1 .left))))

@@ -4,8 +4,6 @@ use mathlib.Core.List.{_++_}
 use mathlib.Core.Path.{sym, _∙_}
 use native.Mathlib.Omega.{arith}
 use borrow.Author.Tests.{lt-ltb, le-ltb}
-use Rattle.common.specs.Choice.{if_then_else_}
-use Rattle.common.specs.Refusals.{unless, refusalBy}
 use Rattle.common.specs.RefusalLaws.{refused-by-front, left-to-rest}
 use Rattle.supervisor.specs.Calls.{changeConditions, refusal}
 use Rattle.supervisor.specs.ConditionLaws.{ready-numbered, refusal-ready}
@@ -13,6 +11,7 @@ use Rattle.supervisor.specs.System.{system}
 use Rattle.supervisor.specs.Conditions.{memoryConditions, loadedConditions}
 use Rattle.supervisor.specs.Draining.{drainConditions}
 use Rattle.supervisor.specs.Table.{slotAt}
+use Rattle.common.specs.RefusalDefinitions.{condition-definitions}
 use borrow.Author.Needs.{needs}
 use Rattle.supervisor.proofs.draining.drain_refusal.Statement.{statement}
 use Rattle.supervisor.proofs.draining.drain_refusal.Tie as tie
@@ -36,13 +35,13 @@ cast-if2 : tie.Need-cast-if2
 cast-if2 c = search needs
 
 returns-2 : tie.Need-returns-2
-unfolding refusalBy unless if_then_else_ refusal changeConditions drainConditions slotAt
+unfolding condition-definitions refusal changeConditions drainConditions slotAt
 returns-2 c =
     let x = system (c .before .before .before .before .before .before .before .args .t1) (now (c .before .before .before .before .before .before .before .args .memory)) in
     sym (left-to-rest (memoryConditions x ++ loadedConditions (c .before .before .before .before .before .before .before .args .t1) (c .before .before .before .before .before .before .before .args .slot)) (drainConditions (slotAt (c .before .before .before .before .before .before .before .args .t1) (c .before .before .before .before .before .before .before .args .slot)) (c .before .before .before .before .before .before .before .args .room)) (ready-numbered x (c .before .before .before .before .before .before .before .args .slot)) (c .before .before .before .before .before .memory-loaded-refusal .ensures) (c .before .before .before .before .if1 .left) ∙ rw (lt-ltb _ _ (c .if2 .taken)))
 
 returns-3 : tie.Need-returns-3
-unfolding refusalBy unless if_then_else_ refusal changeConditions drainConditions slotAt
+unfolding condition-definitions refusal changeConditions drainConditions slotAt
 returns-3 c =
     let x = system (c .before .before .before .before .before .before .before .args .t1) (now (c .before .before .before .before .before .before .before .args .memory)) in
     sym (left-to-rest (memoryConditions x ++ loadedConditions (c .before .before .before .before .before .before .before .args .t1) (c .before .before .before .before .before .before .before .args .slot)) (drainConditions (slotAt (c .before .before .before .before .before .before .before .args .t1) (c .before .before .before .before .before .before .before .args .slot)) (c .before .before .before .before .before .before .before .args .room)) (ready-numbered x (c .before .before .before .before .before .before .before .args .slot)) (c .before .before .before .before .before .memory-loaded-refusal .ensures) (c .before .before .before .before .if1 .left) ∙ rw (le-ltb _ _ (c .if2 .left)))

@@ -1,14 +1,13 @@
 -- `supervisor::feeding::feed`: an accepted call names one of the eight slots, and its bytes fit the input buffer (ChangeLaws.antt).
 use native.Mathlib.Omega.{arith}
 use denote.Ref.{now}
-use Rattle.supervisor.specs.Calls.{afterAccepted, patchOf}
 use Rattle.supervisor.specs.Calls as calls
 use Rattle.supervisor.specs.ChangeLaws.{feed-accepted}
-use Rattle.supervisor.specs.System.{patched}
 use Rattle.supervisor.specs.Feeding.{feedPatch}
-use Rattle.supervisor.specs.Table.{slotAt, withSlot}
+use Rattle.supervisor.specs.Table.{slotAt}
 use Rattle.supervisor.proofs.LoadedSlotLaws.{loaded-end}
 use Rattle.supervisor.specs.OutcomeLaws.{refused-outcome, accepted-outcome}
+use Rattle.supervisor.specs.CallDefinitions.{patch-definitions}
 use borrow.Author.Needs.{needs}
 use Rattle.supervisor.proofs.feeding.feed.Statement.{statement}
 use Rattle.supervisor.proofs.feeding.feed.Tie as tie
@@ -69,7 +68,7 @@ same-length-2 : tie.Need-same-length-2
 same-length-2 c = search needs
 
 returns-2 : tie.Need-returns-2
-unfolding afterAccepted patchOf patched feedPatch withSlot slotAt
+unfolding patch-definitions feedPatch
 returns-2 c =
     let start = c .before .before .before .before .before .before .before .before .before .before .before .before .before .before .args in
     accepted-outcome (calls.change (start .slot) (calls.feed (now (start .bytes)))) _ _ _ (c .before .before .before .before .before .before .before .before .before .before .feed-refusal .ensures) (c .before .before .before .before .before .before .before .before .before .if1 .left) (rw (c .fed-state .ensures, c .before .before .before .copy .ensures, c .before .before .before .before .before .before .input-location .ensures))

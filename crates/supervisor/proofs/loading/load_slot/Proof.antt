@@ -22,7 +22,7 @@ input-body-requires c κs = search needs
 cast-fresh-state : tie.Need-cast-fresh-state
 cast-fresh-state c =
     let start = c .before .before .before .before .before .before .before .args in
-    omega (arith, ap (λ (l : List ℕ). length l) (c .input-body .ensures), input-fits (now (start .file)) (start .v) (c .before .before .before .before .before .before .before .pre .1 .0), read-ranges (now (start .file)) (start .v) (c .before .before .before .before .before .before .before .pre .1 .0) .layout .input .fits)
+    omega (arith, ap (λ (l : List ℕ). length l) (c .input-body .ensures), input-fits (now (start .file)) (start .parameters) (c .before .before .before .before .before .before .before .pre .1 .0), read-ranges (now (start .file)) (start .parameters) (c .before .before .before .before .before .before .before .pre .1 .0) .layout .input .fits)
 
 fresh-state-requires : tie.Need-fresh-state-requires
 fresh-state-requires c κs = search needs
@@ -40,7 +40,7 @@ returns : tie.Need-returns
 unfolding partitionFor patched loadPatch withSlot
 returns c =
     let start = c .before .before .before .before .before .before .before .before .args in
-    rw (accepted-fact (now (start .file)) (start .v) (c .before .before .before .before .before .before .before .before .pre .1 .0) .same, c .fresh-state .ensures, c .before .before .before .before .put-fresh-bytes .ensures, c .before .input-body .ensures, ← c .before .before .before .before .before .before .before .before .pre .1 .1)
+    rw (accepted-fact (now (start .file)) (start .parameters) (c .before .before .before .before .before .before .before .before .pre .1 .0) .same, c .fresh-state .ensures, c .before .before .before .before .put-fresh-bytes .ensures, c .before .input-body .ensures, ← c .before .before .before .before .before .before .before .before .pre .1 .1)
 
 pub load-slot-spec : {M : Type 1} → statement M
 load-slot-spec =

@@ -1,8 +1,7 @@
 -- `supervisor::loading::place_refusal`: the conditions in the order of the table.
 use borrow.Author.Tests.{lt-ltb, le-ltb, not-true, not-false}
-use Rattle.common.specs.Choice.{if_then_else_}
-use Rattle.common.specs.Refusals.{unless, refusalBy}
 use Rattle.supervisor.specs.Loading.{placeConditions}
+use Rattle.common.specs.RefusalDefinitions.{condition-definitions}
 use borrow.Author.Needs.{needs}
 use Rattle.supervisor.proofs.loading.place_refusal.Statement.{statement}
 use Rattle.supervisor.proofs.loading.place_refusal.Tie as tie
@@ -14,18 +13,18 @@ end-requires : tie.Need-end-requires
 end-requires c κs = search needs
 
 returns : tie.Need-returns
-unfolding refusalBy unless if_then_else_ placeConditions
+unfolding condition-definitions placeConditions
 returns c = rw (← c .before .end .ensures, lt-ltb _ _ (c .if1 .taken))
 
 clear-of-others-requires : tie.Need-clear-of-others-requires
 clear-of-others-requires c κs = search needs
 
 returns-2 : tie.Need-returns-2
-unfolding refusalBy unless if_then_else_ placeConditions
+unfolding condition-definitions placeConditions
 returns-2 c = rw (← c .before .before .before .end .ensures, le-ltb _ _ (c .before .before .if1 .left), ← c .before .clear-of-others .ensures, not-true (c .before .clear-of-others .result) (c .if2 .taken))
 
 returns-3 : tie.Need-returns-3
-unfolding refusalBy unless if_then_else_ placeConditions
+unfolding condition-definitions placeConditions
 returns-3 c = rw (← c .before .before .before .end .ensures, le-ltb _ _ (c .before .before .if1 .left), ← c .before .clear-of-others .ensures, not-false (c .before .clear-of-others .result) (c .if2 .left))
 
 pub place-refusal-spec : {M : Type 1} → statement M

@@ -1,5 +1,5 @@
 use Rattle.supervisor.specs.OutcomeLaws.{refused-outcome, accepted-outcome}
-use Rattle.supervisor.proofs.RunningLaws.{run-number, run-refusal-sound, accepted-run}
+use Rattle.supervisor.proofs.RunningLaws.{run-refusal, run-refusal-sound, accepted-run}
 use Rattle.supervisor.specs.Calls as calls
 use Rattle.supervisor.specs.System.{system}
 use mathlib.Core.Path.{_∙_}
@@ -14,16 +14,16 @@ same-length : tie.Need-same-length
 same-length c = search needs
 
 returns : tie.Need-returns
-returns c = refused-outcome (calls.run (c .before .before .before .before .args .count)) (system (c .before .before .before .before .args .table) (c .before .before .before .before .args .memory .now)) (c .before .memory-refusal .ensures ∙ run-number _ _) (c .if1 .taken)
+returns c = refused-outcome (calls.run (c .before .before .before .before .args .count)) (system (c .before .before .before .before .args .table) (c .before .before .before .before .args .memory .now)) (c .before .memory-refusal .ensures ∙ run-refusal _ _) (c .if1 .taken)
 
-rounds-requires : tie.Need-rounds-requires
-rounds-requires c κs = run-refusal-sound _ (c .before .before .memory-refusal .ensures) (c .before .if1 .left)
+run-rounds-requires : tie.Need-run-rounds-requires
+run-rounds-requires c κs = run-refusal-sound _ (c .before .before .memory-refusal .ensures) (c .before .if1 .left)
 
 same-length-2 : tie.Need-same-length-2
 same-length-2 c = search needs
 
 returns-2 : tie.Need-returns-2
-returns-2 c = accepted-outcome (calls.run (c .before .before .before .before .before .before .before .before .args .count)) (system (c .before .before .before .before .before .before .before .before .args .table) (c .before .before .before .before .before .before .before .before .args .memory .now)) _ _ (c .before .before .before .before .before .memory-refusal .ensures ∙ run-number _ _) (c .before .before .before .before .if1 .left) (c .before .before .rounds .ensures ∙ accepted-run _ _)
+returns-2 c = accepted-outcome (calls.run (c .before .before .before .before .before .before .before .before .args .count)) (system (c .before .before .before .before .before .before .before .before .args .table) (c .before .before .before .before .before .before .before .before .args .memory .now)) _ _ (c .before .before .before .before .before .memory-refusal .ensures ∙ run-refusal _ _) (c .before .before .before .before .if1 .left) (c .before .before .run-rounds .ensures ∙ accepted-run _ _)
 
 pub run-spec : {M : Type 1} → statement M
-run-spec = tie.close (tie.spec memory-refusal-requires same-length returns rounds-requires same-length-2 returns-2)
+run-spec = tie.close (tie.spec memory-refusal-requires same-length returns run-rounds-requires same-length-2 returns-2)

@@ -1,5 +1,5 @@
 -- `supervisor::sound::are_apart`: in the shape of its definition.
-use Rattle.supervisor.specs.Sound.{apart}
+use Rattle.supervisor.specs.Sound.{areApart}
 use borrow.Author.Needs.{needs}
 use Rattle.supervisor.proofs.sound.are_apart.Statement.{statement}
 use Rattle.supervisor.proofs.sound.are_apart.Tie as tie
@@ -17,7 +17,7 @@ cast-result-2 : tie.Need-cast-result-2
 cast-result-2 c = search needs
 
 returns : tie.Need-returns
-unfolding apart
+unfolding areApart
 returns c = rw (c .before .end2 .ensures, c .before .before .before .end .ensures)
 
 pub are-apart-spec : {M : Type 1} → statement M

@@ -5,7 +5,7 @@ use mathlib.Core.Path.{_≡_, ap}
 use native.Mathlib.Omega.{arith}
 use lib.Dec.{eqb}
 use Rattle.supervisor.specs.Table.{slotAt}
-use Rattle.supervisor.specs.Sound.{apart, clearOfOthers}
+use Rattle.supervisor.specs.Sound.{areApart, clearOfOthers}
 use Rattle.common.specs.Tests.{allBelow}
 use Rattle.supervisor.specs.declared.table.Partition.{Partition}
 use Rattle.supervisor.specs.declared.table.Table.{Table}
@@ -15,16 +15,16 @@ use Rattle.supervisor.proofs.sound.clear_of_others.Statement.{statement
 use Rattle.supervisor.proofs.sound.clear_of_others.Tie as tie
 
 abbrev test : Table → ℕ → Partition → ℕ → Bool
-test table but p j = eqb j but || apart (slotAt table j .partition) p
+test table except p j = eqb j except || areApart (slotAt table j .partition) p
 
 abbrev Inv-loop : tie.InvT-loop
-Inv-loop but p table ok₀ j₀ ok j = (j ≤ 8) × (ok ≡ allBelow j (test table but p))
+Inv-loop except p table ok₀ j₀ ok j = (j ≤ 8) × (ok ≡ allBelow j (test table except p))
 
 abbrev μ-loop : tie.MeasureT-loop
-μ-loop but p table ok₀ j₀ ok j = 8 - j
+μ-loop except p table ok₀ j₀ ok j = 8 - j
 
 loop-holds : tie.Need-loop-holds Inv-loop μ-loop
-loop-holds c = (omega arith, all-none (test (c .args .t1) (c .args .but) (c .args .p)))
+loop-holds c = (omega arith, all-none (test (c .args .t1) (c .args .except) (c .args .p)))
 
 mul-s : tie.Need-mul-s Inv-loop μ-loop
 mul-s c = search needs
@@ -46,14 +46,14 @@ unfolding slotAt
 loop-again c =
     let at = c .before .before .before .before .before .args in
     let here = c .before .before .before .before .loop in
-    (omega arith, all-more (test (at .t1) (at .but) (at .p)) (here .j) (here .inv .1) (ap (λ (b : Bool). eqb (here .j) (at .but) || b) (c .are-apart .ensures)))
+    (omega arith, all-more (test (at .t1) (at .except) (at .p)) (here .j) (here .inv .1) (ap (λ (b : Bool). eqb (here .j) (at .except) || b) (c .are-apart .ensures)))
 
 returns : tie.Need-returns Inv-loop μ-loop
 unfolding clearOfOthers
 returns c =
     let at = c .before .before .args in
     let here = c .before .loop in
-    all-done (test (at .t1) (at .but) (at .p)) 8 (here .j) (here .inv .1) (here .inv .0) (c .loop-test .left)
+    all-done (test (at .t1) (at .except) (at .p)) 8 (here .j) (here .inv .1) (here .inv .0) (c .loop-test .left)
 
 pub clear-of-others-spec : {M : Type 1} → statement M
 clear-of-others-spec =

@@ -4,11 +4,11 @@ use borrow.Author.Needs.{needs}
 use Rattle.supervisor.proofs.sound.slot_sound.Statement.{statement}
 use Rattle.supervisor.proofs.sound.slot_sound.Tie as tie
 
-zero-partition-requires : tie.Need-zero-partition-requires
-zero-partition-requires c κs = search needs
+is-zero-partition-requires : tie.Need-is-zero-partition-requires
+is-zero-partition-requires c κs = search needs
 
-zero-state-requires : tie.Need-zero-state-requires
-zero-state-requires c κs = search needs
+is-zero-state-requires : tie.Need-is-zero-state-requires
+is-zero-state-requires c κs = search needs
 
 partition-sound-requires : tie.Need-partition-sound-requires
 partition-sound-requires c κs = search needs
@@ -19,14 +19,14 @@ state-sound-requires c κs = search needs
 returns : tie.Need-returns
 unfolding slotSound
 returns c =
-    rw (c .state-sound .ensures, c .before .partition-sound .ensures, c .before .before .zero-state .ensures, c .before .before .before .zero-partition .ensures)
+    rw (c .state-sound .ensures, c .before .partition-sound .ensures, c .before .before .is-zero-state .ensures, c .before .before .before .is-zero-partition .ensures)
 
 pub slot-sound-spec : {M : Type 1} → statement M
 slot-sound-spec =
     tie.close
     (tie.spec
-    zero-partition-requires
-    zero-state-requires
+    is-zero-partition-requires
+    is-zero-state-requires
     partition-sound-requires
     state-sound-requires
     returns)

@@ -1,7 +1,7 @@
 -- `supervisor::sound::table_sound`: that there are eight slots is known of the array.
 use mathlib.Core.Path.{_≡_, sym, _∙_}
 use lib.ListN.{length, length-map}
-use Rattle.common.specs.Ranges.{within}
+use Rattle.common.specs.Ranges.{isWithin}
 use Rattle.common.specs.Tests.{allAfter}
 use Rattle.supervisor.specs.Sound.{tableSound}
 use Rattle.common.specs.TestLaws.{and-true}
@@ -26,7 +26,7 @@ unfolding tableSound allAfter
 returns c =
     let start = c .before .before .before .before .args in
     let e : length (start .table .slots) ≡ 8 = sym (length-map (start .table .slots) _) ∙ c .before .before .before .before .good .0 .1 .1 .1 .0 .1 .0 .1 in
-    rw (e, and-true (within (start .table .size) 65536), c .slots-apart .ensures, c .before .slots-sound .ensures, c .before .before .is-within .ensures)
+    rw (e, and-true (isWithin (start .table .size) 65536), c .slots-apart .ensures, c .before .slots-sound .ensures, c .before .before .is-within .ensures)
 
 pub table-sound-spec : {M : Type 1} → statement M
 table-sound-spec =

@@ -1,12 +1,11 @@
 -- `supervisor::unloading::unload`: an accepted call names one of the eight slots (ConditionLaws.antt).
 use native.Mathlib.Omega.{arith}
-use Rattle.supervisor.specs.Calls.{changeConditions, refusal, afterAccepted, patchOf}
+use Rattle.supervisor.specs.Calls.{changeConditions, refusal}
 use Rattle.supervisor.specs.Calls as calls
 use Rattle.supervisor.specs.ConditionLaws.{refusal-ready}
-use Rattle.supervisor.specs.System.{patched}
 use Rattle.supervisor.specs.Unloading.{unloadPatch}
-use Rattle.supervisor.specs.Table.{slotAt, withSlot}
 use Rattle.supervisor.specs.OutcomeLaws.{refused-outcome, accepted-outcome}
+use Rattle.supervisor.specs.CallDefinitions.{patch-definitions}
 use borrow.Author.Needs.{needs}
 use Rattle.supervisor.proofs.unloading.unload.Statement.{statement}
 use Rattle.supervisor.proofs.unloading.unload.Tie as tie
@@ -53,7 +52,7 @@ same-length-2 : tie.Need-same-length-2
 same-length-2 c = search needs
 
 returns-2 : tie.Need-returns-2
-unfolding refusal changeConditions afterAccepted patchOf patched unloadPatch withSlot slotAt
+unfolding patch-definitions refusal changeConditions unloadPatch
 returns-2 c =
     accepted-outcome (calls.change (c .before .before .before .before .before .before .before .before .before .before .before .before .before .before .before .args .slot) calls.unload) _ _ _ (c .before .before .before .before .before .before .before .before .before .before .before .before .memory-loaded-refusal .ensures) (c .before .before .before .before .before .before .before .before .before .before .before .if1 .left) (rw (c .empty .ensures, c .before .before .before .fill .ensures, c .before .before .before .before .size .ensures))
 

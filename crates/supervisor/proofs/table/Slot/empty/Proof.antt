@@ -4,18 +4,18 @@ use borrow.Author.Needs.{needs}
 use Rattle.supervisor.proofs.table.Slot.empty.Statement.{statement}
 use Rattle.supervisor.proofs.table.Slot.empty.Tie as tie
 
-none-requires : tie.Need-none-requires
-none-requires c κs = search needs
+empty-requires : tie.Need-empty-requires
+empty-requires c κs = search needs
 
 fresh-requires : tie.Need-fresh-requires
 fresh-requires c κs = search needs
 
-at-rest-requires : tie.Need-at-rest-requires
-at-rest-requires c κs = search needs
+resting-requires : tie.Need-resting-requires
+resting-requires c κs = search needs
 
 returns : tie.Need-returns
 unfolding emptySlot
-returns c = rw (c .before .before .none .ensures, c .at-rest .ensures, c .before .fresh .ensures)
+returns c = rw (c .before .before .empty .ensures, c .resting .ensures, c .before .fresh .ensures)
 
 pub empty-spec : {M : Type 1} → statement M
-empty-spec = tie.close (tie.spec none-requires fresh-requires at-rest-requires returns)
+empty-spec = tie.close (tie.spec empty-requires fresh-requires resting-requires returns)

@@ -3,11 +3,10 @@ use mathlib.Core.Bool.{true, false}
 use mathlib.Core.Path.{_≡_, sym, _∙_}
 use native.Mathlib.Omega.{arith}
 use borrow.Author.Tests.{not-true, not-false}
-use Rattle.common.specs.Refusals.{unless, refusalBy}
-use Rattle.common.specs.Ranges.{within}
+use Rattle.common.specs.Ranges.{isWithin}
 use Rattle.supervisor.specs.Table.{newRefusal, newTable}
-use Rattle.common.specs.Choice.{if_then_else_}
 use Rattle.common.specs.TestLaws.{within-fact}
+use Rattle.common.specs.RefusalDefinitions.{condition-definitions}
 use borrow.Author.Needs.{needs}
 use Rattle.supervisor.proofs.table.Table.new.Statement.{statement}
 use Rattle.supervisor.proofs.table.Table.new.Tie as tie
@@ -19,24 +18,24 @@ empty-requires : tie.Need-empty-requires
 empty-requires c κs = search needs
 
 returns : tie.Need-returns
-unfolding newRefusal newTable refusalBy unless if_then_else_
+unfolding condition-definitions newRefusal newTable
 returns c =
-    let e : within (c .before .before .before .args .length) 65536 ≡ false = sym (c .before .before .is-within .ensures) ∙ not-true (c .before .before .is-within .result) (c .before .if1 .taken) in
+    let e : isWithin (c .before .before .before .args .length) 65536 ≡ false = sym (c .before .before .is-within .ensures) ∙ not-true (c .before .before .is-within .result) (c .before .if1 .taken) in
     (rw e, rw (c .empty .ensures, e))
 
 cast-empty : tie.Need-cast-empty
 cast-empty c =
     let start = c .before .before .args in
-    let e : within (start .length) 65536 ≡ true = sym (c .before .is-within .ensures) ∙ not-false (c .before .is-within .result) (c .if1 .left) in
+    let e : isWithin (start .length) 65536 ≡ true = sym (c .before .is-within .ensures) ∙ not-false (c .before .is-within .result) (c .if1 .left) in
     omega (arith, within-fact (start .length) 65536 e .fits)
 
 empty-requires-2 : tie.Need-empty-requires-2
 empty-requires-2 c κs = search needs
 
 returns-2 : tie.Need-returns-2
-unfolding newRefusal newTable refusalBy unless if_then_else_
+unfolding condition-definitions newRefusal newTable
 returns-2 c =
-    let e : within (c .before .before .before .args .length) 65536 ≡ true = sym (c .before .before .is-within .ensures) ∙ not-false (c .before .before .is-within .result) (c .before .if1 .left) in
+    let e : isWithin (c .before .before .before .args .length) 65536 ≡ true = sym (c .before .before .is-within .ensures) ∙ not-false (c .before .before .is-within .result) (c .before .if1 .left) in
     (rw e, rw (c .empty2 .ensures, e))
 
 pub new-spec : {M : Type 1} → statement M

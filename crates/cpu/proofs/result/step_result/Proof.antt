@@ -1,0 +1,11 @@
+use Rattle.cpu.specs.PackedCpu.{stepResultOf}
+use mathlib.Core.Path.{refl}
+use Rattle.cpu.proofs.result.step_result.Statement.{statement}
+use Rattle.cpu.proofs.result.step_result.Tie as tie
+
+returns : tie.Need-returns
+unfolding stepResultOf
+returns c = refl
+
+pub step-result-spec : {M : Type 1} → statement M
+step-result-spec = tie.close (tie.spec returns)
