@@ -8,7 +8,7 @@ lint:
 	tools/edits
 	rt fmt --check
 
-# all but the proofs of the crates: the tools' tests, and the archive beside the reference
+# lint, the tools' tests, and the archive: proved, and compared with the reference
 check: lint tools
 	$(MAKE) -C bench check
 

@@ -1,7 +1,7 @@
 /* One random call through an entry point and through the reference: what is lent, both answers, what differs. */
 #ifndef CALLS_H
 #define CALLS_H
-#include "pair.h"
+#include "buffer_pair.h"
 #include "pattern_floor.h"
 #include "reference/ref_supervisor.h"
 
@@ -9,35 +9,35 @@
  * a memory. */
 typedef struct {
     ref_table reference_table;
-    pair table, memory;         /* in `table` the reference's bytes are those of its table, as codec.c has them */
+    buffer_pair table, memory;  /* in `table` the reference's bytes are those of its table, as codec.c has them */
 } system_pair;
 
-enum kind {
+enum call_kind {
     CALL_NEW, CALL_LOAD, CALL_UNLOAD, CALL_FEED, CALL_DRAIN, CALL_RUN, CALL_REPORT,
-    CALL_READ, CALL_CODE, CALL_INPUT, CALL_WRITE, KINDS
+    CALL_READ, CALL_CODE, CALL_INPUT, CALL_WRITE, CALL_KINDS
 };
 
-extern const char *const call_names[KINDS];
+extern const char *const call_names[CALL_KINDS];
 
 /* The refusals that the header lists for each call, and 0, as bits. Of pf_code and pf_input: the reader's. */
-extern const uint32_t call_refusals[KINDS];
+extern const uint32_t call_refusals[CALL_KINDS];
 
-enum { REFUSALS = 17, LENT_MOST = 6 };
+enum { REFUSAL_COUNT = 17, MAX_BUFFERS = 6 };
 
 typedef struct {
-    enum kind kind;
+    enum call_kind kind;
     size_t slot, location, length;
     uint16_t rounds;
-    pair *table, *memory;       /* the system's, or one of another length among those lent */
-    pair lent[LENT_MOST];       /* buffers for this call alone */
-    size_t lents;
+    buffer_pair *table, *memory;       /* the system's, or one of another length among those lent */
+    buffer_pair buffers[MAX_BUFFERS];       /* buffers for this call alone */
+    size_t buffer_count;
     uint32_t answer, expected;
     unsigned refusal;           /* the reference's */
     uint64_t steps;             /* of slots that still run after pf_run: see calls.c */
 } call;
 
 /* Makes a call of that kind with random arguments, most of them sensible for the system as it stands. */
-void call_make(call *c, enum kind kind, system_pair *both);
+void call_make(call *c, enum call_kind kind, system_pair *both);
 
 /* The first byte or answer that is not as it must be. */
 difference call_difference(const call *c, system_pair *both);

@@ -18,51 +18,51 @@ enum { FULL_RUN = 200000 };
 
 typedef struct {
     uint64_t seed, calls, steps;
-} wanted;
+} run_length;
 
 typedef struct {
     uint64_t lists, calls, steps, damaged, still_sound, written_from_outside;
-    uint64_t met[KINDS][REFUSALS];
+    uint64_t met[CALL_KINDS][REFUSAL_COUNT];
     uint64_t statuses[8];           /* of all slots after each pf_run that was done */
 } counts;
 
 /* ---- systems */
 
-static size_t memory_length(void)
+static size_t random_memory_length(void)
 {
-    switch (below(12)) {
-    case 0: return between(1, 64);
+    switch (random_below(12)) {
+    case 0: return random_between(1, 64);
     case 1: return 65536;
-    case 2: return between(1, 65536);
-    default: return between(300, 9000);
+    case 2: return random_between(1, 65536);
+    default: return random_between(300, 9000);
     }
 }
 
-static void give_table(system_pair *both)
+static void copy_table_to_product(system_pair *both)
 {
     encode_table(&both->reference_table, both->table.reference);
-    pair_same(&both->table);
+    buffer_pair_copy_to_product(&both->table);
 }
 
 /* A memory of random bytes; a table of random bytes, which is most likely not sound, or a sound one. */
 static system_pair system_pair_new(int sound)
 {
     system_pair both;
-    both.table = pair_new("table", PF_TABLE_BYTES);
-    both.memory = pair_new("memory", memory_length());
+    both.table = buffer_pair_random("table", PF_TABLE_BYTES);
+    both.memory = buffer_pair_random("memory", random_memory_length());
     decode_table(both.table.reference, &both.reference_table);
     if (sound) {
         table_random(&both.reference_table, both.memory.reference, both.memory.length);
-        pair_same(&both.memory);
-        give_table(&both);
+        buffer_pair_copy_to_product(&both.memory);
+        copy_table_to_product(&both);
     }
     return both;
 }
 
 static void system_pair_free(system_pair *both)
 {
-    pair_free(&both->table);
-    pair_free(&both->memory);
+    buffer_pair_free(&both->table);
+    buffer_pair_free(&both->memory);
 }
 
 /* ---- what happens between calls */
@@ -70,21 +70,22 @@ static void system_pair_free(system_pair *both)
 /* The host changes some bytes of the memory: anywhere, or where a machine is. */
 static void write_from_outside(system_pair *both)
 {
-    const ref_slot *s = &both->reference_table.slots[below(SLOTS)];
-    size_t at = one_in(2) ? below(both->memory.length) : s->base + (size_t)s->pc, n = between(1, 16);
+    const ref_slot *s = &both->reference_table.slots[random_below(SLOTS)];
+    size_t at = random_one_in(2) ? random_below(both->memory.length) : s->base + (size_t)s->pc;
+    size_t n = random_between(1, 16);
     for (size_t i = at; i < at + n && i < both->memory.length; i++) both->memory.reference[i] = (uint8_t)random64();
-    pair_same(&both->memory);
+    buffer_pair_copy_to_product(&both->memory);
 }
 
-static void disturb(system_pair *both, counts *n)
+static void change_from_outside(system_pair *both, counts *n)
 {
-    if (one_in(10)) {
+    if (random_one_in(10)) {
         write_from_outside(both);
         n->written_from_outside++;
     }
-    if (one_in(14)) {
+    if (random_one_in(14)) {
         table_damage(&both->reference_table);
-        give_table(both);
+        copy_table_to_product(both);
         n->damaged++;
         n->still_sound += ref_sound(&both->reference_table);
     }
@@ -95,14 +96,14 @@ static void disturb(system_pair *both, counts *n)
 static void keep_sound_table(system_pair *both, const call *c, uint8_t last_sound[PF_TABLE_BYTES])
 {
     if (c->kind == CALL_NEW && !c->refusal && c->length != both->memory.length) {
-        pair_free(&both->memory);
-        both->memory = pair_new("memory", c->length);
+        buffer_pair_free(&both->memory);
+        both->memory = buffer_pair_random("memory", c->length);
     }
     if (ref_sound(&both->reference_table) && both->reference_table.memory_length == both->memory.length) {
         encode_table(&both->reference_table, last_sound);
     } else {
         decode_table(last_sound, &both->reference_table);
-        give_table(both);
+        copy_table_to_product(both);
     }
 }
 
@@ -111,15 +112,15 @@ static void keep_sound_table(system_pair *both, const call *c, uint8_t last_soun
 /* what runs now: a call that does not return must be told too */
 static struct {
     const char *program;
-    enum kind kind;
+    enum call_kind kind;
     uint64_t seed, calls, list_seed, list_calls;
-} now;
+} current;
 
-static void print_again(void)
+static void print_how_to_repeat(void)
 {
-    printf("seed %" PRIu64 ", call %" PRIu64 "\n", now.seed, now.calls);
-    printf("again: %s %" PRIu64 " %" PRIu64 "\n", now.program, now.seed, now.calls);
-    printf("its list alone: %s %" PRIu64 " %" PRIu64 "\n", now.program, now.list_seed, now.list_calls);
+    printf("seed %" PRIu64 ", call %" PRIu64 "\n", current.seed, current.calls);
+    printf("again: %s %" PRIu64 " %" PRIu64 "\n", current.program, current.seed, current.calls);
+    printf("its list alone: %s %" PRIu64 " %" PRIu64 "\n", current.program, current.list_seed, current.list_calls);
 }
 
 static void print_difference(const call *c, const difference *d)
@@ -127,23 +128,23 @@ static void print_difference(const call *c, const difference *d)
     printf("DIFFERENT: ");
     call_print(c);
     printf("%s", d->where);
-    if (d->at != NO_PLACE) printf(", byte %zu", d->at);
+    if (d->at != NO_OFFSET) printf(", byte %zu", d->at);
     printf(": %s", d->what);
     if (d->product != d->expected) printf(": product %02X, expected %02X (hexadecimal)", d->product, d->expected);
     printf("\n");
-    print_again();
+    print_how_to_repeat();
 }
 
-/* After a fault there is nothing to go on with, and all that is printed stands in `now`. */
+/* After a fault there is nothing to go on with, and all that is printed stands in `current`. */
 static void fault(int number)
 {
-    printf("DIFFERENT: %s ended by signal %d\n", call_names[now.kind], number);
-    print_again();
+    printf("DIFFERENT: %s ended by signal %d\n", call_names[current.kind], number);
+    print_how_to_repeat();
     fflush(stdout);
     _Exit(1);
 }
 
-static void tell_faults(void)
+static void catch_faults(void)
 {
     static const int faults[] = { SIGSEGV, SIGILL, SIGFPE, SIGABRT };
     for (size_t i = 0; i < sizeof faults / sizeof faults[0]; i++) signal(faults[i], fault);
@@ -151,32 +152,32 @@ static void tell_faults(void)
 
 /* ---- lists of calls */
 
-static enum kind some_kind(const ref_table *table)
+static enum call_kind random_kind(const ref_table *table)
 {
-    static const uint8_t shares[KINDS] = { 1, 23, 8, 13, 12, 25, 6, 3, 3, 3, 3 };
-    size_t n = below(100), k = 0, taken = 0;
+    static const uint8_t shares[CALL_KINDS] = { 1, 23, 8, 13, 12, 25, 6, 3, 3, 3, 3 };
+    size_t n = random_below(100), k = 0, taken = 0;
     while (n >= shares[k]) n -= shares[k++];
     for (size_t i = 0; i < SLOTS; i++) taken += table->slots[i].status != ST_EMPTY;
-    return k == CALL_LOAD && taken == SLOTS && !one_in(4) ? CALL_UNLOAD : (enum kind)k;
+    return k == CALL_LOAD && taken == SLOTS && !random_one_in(4) ? CALL_UNLOAD : (enum call_kind)k;
 }
 
 static void count(const call *c, const system_pair *both, counts *n)
 {
     n->calls++;
     n->steps += c->steps;
-    n->met[c->kind][c->refusal % REFUSALS]++;
+    n->met[c->kind][c->refusal % REFUSAL_COUNT]++;
     if (c->kind != CALL_RUN || c->refusal) return;
     for (size_t k = 0; k < SLOTS; k++) n->statuses[both->reference_table.slots[k].status & 7]++;
 }
 
-static int enough(const counts *n, const wanted *w) { return n->calls >= w->calls && n->steps >= w->steps; }
+static int enough(const counts *n, const run_length *w) { return n->calls >= w->calls && n->steps >= w->steps; }
 
-static int one_call(system_pair *both, enum kind kind, uint8_t *last_sound, counts *n)
+static int make_and_compare_call(system_pair *both, enum call_kind kind, uint8_t *last_sound, counts *n)
 {
     call c;
-    now.kind = kind;
-    now.calls++;
-    now.list_calls++;
+    current.kind = kind;
+    current.calls++;
+    current.list_calls++;
     call_make(&c, kind, both);
     difference d = call_difference(&c, both);
     count(&c, both, n);
@@ -187,21 +188,21 @@ static int one_call(system_pair *both, enum kind kind, uint8_t *last_sound, coun
 }
 
 /* Answers whether all calls were alike; it ends with the first that is not. */
-static int run_list(uint64_t seed, const wanted *w, counts *n)
+static int run_list(uint64_t seed, const run_length *w, counts *n)
 {
     random_seed(seed);
-    now.list_seed = seed;
-    now.list_calls = 0;
-    int sound = one_in(2);
+    current.list_seed = seed;
+    current.list_calls = 0;
+    int sound = random_one_in(2);
     uint8_t last_sound[PF_TABLE_BYTES];
     system_pair both = system_pair_new(sound);
     ref_table empty;
     ref_new(&empty, both.memory.length);
     encode_table(sound ? &both.reference_table : &empty, last_sound);
-    int alike = sound || one_call(&both, CALL_NEW, last_sound, n);
-    for (size_t left = between(20, 300); left && alike && !enough(n, w); left--) {
-        disturb(&both, n);
-        alike = one_call(&both, some_kind(&both.reference_table), last_sound, n);
+    int alike = sound || make_and_compare_call(&both, CALL_NEW, last_sound, n);
+    for (size_t left = random_between(20, 300); left && alike && !enough(n, w); left--) {
+        change_from_outside(&both, n);
+        alike = make_and_compare_call(&both, random_kind(&both.reference_table), last_sound, n);
     }
     system_pair_free(&both);
     n->lists++;
@@ -213,26 +214,26 @@ static uint64_t next_seed(uint64_t seed) { return seed * 6364136223846793005u + 
 
 /* ---- the summary */
 
-static void print_row(const char *name, const uint64_t row[REFUSALS])
+static void print_row(const char *name, const uint64_t row[REFUSAL_COUNT])
 {
     uint64_t all = 0;
-    for (size_t r = 0; r < REFUSALS; r++) all += row[r];
+    for (size_t r = 0; r < REFUSAL_COUNT; r++) all += row[r];
     printf("%-10s%9" PRIu64, name, all);
-    for (size_t r = 0; r < REFUSALS; r++) printf(" %6" PRIu64, row[r]);
+    for (size_t r = 0; r < REFUSAL_COUNT; r++) printf(" %6" PRIu64, row[r]);
     printf("\n");
 }
 
-static void print_counts(const wanted *w, const counts *n)
+static void print_counts(const run_length *w, const counts *n)
 {
-    uint64_t all[REFUSALS] = { 0 };
+    uint64_t all[REFUSAL_COUNT] = { 0 };
     printf("seed %" PRIu64 ": %" PRIu64 " calls in %" PRIu64 " lists, at least %" PRIu64 " steps: no difference\n",
            w->seed, n->calls, n->lists, n->steps);
     printf("%-10s%9s", "refusal", "all");
-    for (int r = 0; r < REFUSALS; r++) printf(" %6d", r);
+    for (int r = 0; r < REFUSAL_COUNT; r++) printf(" %6d", r);
     printf("\n");
-    for (int k = 0; k < KINDS; k++) {
+    for (int k = 0; k < CALL_KINDS; k++) {
         print_row(call_names[k], n->met[k]);
-        for (int r = 0; r < REFUSALS; r++) all[r] += n->met[k][r];
+        for (int r = 0; r < REFUSAL_COUNT; r++) all[r] += n->met[k][r];
     }
     print_row("all", all);
     printf("slots after pf_run, by status:");
@@ -245,8 +246,8 @@ static void print_counts(const wanted *w, const counts *n)
 static int refusals_missing(const counts *n)
 {
     int missing = 0;
-    for (int k = 0; k < KINDS; k++)
-        for (int r = 0; r < REFUSALS; r++) {
+    for (int k = 0; k < CALL_KINDS; k++)
+        for (int r = 0; r < REFUSAL_COUNT; r++) {
             int listed = call_refusals[k] >> r & 1, met = n->met[k][r] != 0;
             if (met ? listed : !listed || n->calls < FULL_RUN) continue;
             printf("%s: %s %d\n", met ? "NOT LISTED IN THE HEADER" : "NOT MET", call_names[k], r);
@@ -266,11 +267,11 @@ static int statuses_missing(const counts *n)
     return missing;
 }
 
-static int compare(const char *program, const wanted *w)
+static int compare(const char *program, const run_length *w)
 {
     static counts n;
-    now.program = program;
-    now.seed = w->seed;
+    current.program = program;
+    current.seed = w->seed;
     for (uint64_t seed = w->seed; !enough(&n, w); seed = next_seed(seed))
         if (!run_list(seed, w, &n)) return 1;
     print_counts(w, &n);
@@ -283,7 +284,8 @@ int main(int argc, char **argv)
         fprintf(stderr, "usage: %s SEED CALLS [STEPS]\n", argv[0]);
         return 2;
     }
-    wanted w = { strtoull(argv[1], NULL, 10), strtoull(argv[2], NULL, 10), argc > 3 ? strtoull(argv[3], NULL, 10) : 0 };
-    tell_faults();
+    run_length w = { strtoull(argv[1], NULL, 10), strtoull(argv[2], NULL, 10),
+                     argc > 3 ? strtoull(argv[3], NULL, 10) : 0 };
+    catch_faults();
     return compare(argv[0], &w);
 }

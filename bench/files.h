@@ -7,5 +7,5 @@
 enum { FILE_ROOM = 160000 };    /* longer than any file that is made */
 
 /* A file of a pattern that fits into so many bytes of memory if nothing is wrong with it. Answers the file's length. */
-size_t file_make(uint8_t file[FILE_ROOM], size_t memory);
+size_t file_random(uint8_t file[FILE_ROOM], size_t memory);
 #endif

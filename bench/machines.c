@@ -25,15 +25,15 @@ static int read_or_say(const char *path)
 /* A state of a wrong length is refused by 1, and no byte changes. */
 static int refuses(size_t length)
 {
-    lent state = lent_new(length), partition = lent_new(48);
+    guarded_buffer state = guarded_new(length), partition = guarded_new(48);
     memset(state.bytes, 1, length);
     memset(partition.bytes, 0xC0, partition.length);
     int right = pf_machine_run(state.bytes, length, partition.bytes, partition.length, 16, 16, 16, 3, 3) == 1
-             && lent_intact(&state) && lent_intact(&partition);
+             && guards_intact(&state) && guards_intact(&partition);
     for (size_t i = 0; i < length; i++) right &= state.bytes[i] == 1;
     for (size_t i = 0; i < partition.length; i++) right &= partition.bytes[i] == 0xC0;
-    lent_free(&state);
-    lent_free(&partition);
+    guarded_free(&state);
+    guarded_free(&partition);
     return right;
 }
 
@@ -56,17 +56,17 @@ static int check_pattern(const char *path)
     if (!read_or_say(path)) return 1;
     uint64_t steps = 0;
     for (int q = 0; q < 2; q++) {
-        twin t = twin_new(the_pattern.layout, 5);
+        machine_pair t = machine_pair_new(the_pattern.layout, 5);
         pattern_load(&the_pattern, &t);
         for (size_t i = 0; i < sizeof rounds / sizeof rounds[0]; i++) {
-            steps += twin_run(&t, quanta[q], rounds[i]);
-            const char *what = twin_difference(&t);
+            steps += machine_pair_run(&t, quanta[q], rounds[i]);
+            const char *what = machine_pair_difference(&t);
             if (what) {
                 printf("%s: DIFFERENT: %s, quantum %d\n", base_name(path), what, (int)quanta[q]);
                 return 1;
             }
         }
-        twin_free(&t);
+        machine_pair_free(&t);
     }
     printf("%s: %llu steps alike\n", base_name(path), (unsigned long long)steps);
     return 0;

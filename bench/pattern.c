@@ -24,17 +24,17 @@ int pattern_read(const char *path, pattern *p)
     p->layout = (layout){ u16_at(parameters), u16_at(parameters + 2), u16_at(parameters + 4) };
     p->start = u16_at(parameters + 6);
     return body_at(p, 19, "PC", &p->code, &p->code_length)
-        && body_at(p, 23u + p->code_length, "PI", &p->first, &p->first_length)
-        && p->code_length <= p->layout.window && p->first_length <= p->layout.input;
+        && body_at(p, 23u + p->code_length, "PI", &p->first_input, &p->first_input_length)
+        && p->code_length <= p->layout.window && p->first_input_length <= p->layout.input;
 }
 
-void pattern_load(const pattern *p, twin *t)
+void pattern_load(const pattern *p, machine_pair *t)
 {
     memset(t->reference_partition.bytes, 0, t->reference_partition.length);
     memcpy(t->reference.window_bytes, p->code, p->code_length);
-    memcpy(t->reference.input_bytes, p->first, p->first_length);
+    memcpy(t->reference.input_bytes, p->first_input, p->first_input_length);
     ref_machine_fresh(&t->reference, p->start);
-    t->reference.filled = p->first_length;
+    t->reference.filled = p->first_input_length;
     t->reference.read = t->reference.written = 0;
-    twin_same(t);
+    machine_pair_copy_to_product(t);
 }

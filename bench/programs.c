@@ -2,8 +2,7 @@
 #include "random.h"
 #include <string.h>
 
-/* codes at which a machine stops at once: a window without them runs longer */
-static int stops(uint8_t code)
+int code_stops_at_once(uint8_t code)
 {
     static const uint8_t unknown[] = { 0x00, 0x10, 0x11, 0x90, 0x91, 0xB6, 0xB7, 0xC4, 0xC5, 0xC6, 0xC7, 0x40 };
     for (size_t i = 0; i < sizeof unknown; i++)
@@ -14,7 +13,7 @@ static int stops(uint8_t code)
 static uint8_t lasting_code(void)
 {
     uint8_t code = (uint8_t)random64();
-    while (stops(code) && !one_in(64)) code = (uint8_t)random64();
+    while (code_stops_at_once(code) && !random_one_in(64)) code = (uint8_t)random64();
     return code;
 }
 
@@ -32,13 +31,13 @@ static size_t code_length(uint8_t code)
 }
 
 /* a short way forward or back, seldom indirect */
-static uint8_t relative(void) { return (uint8_t)(((below(32) - 16) & 0x7F) | (one_in(8) ? 0x80 : 0)); }
+static uint8_t relative(void) { return (uint8_t)(((random_below(32) - 16) & 0x7F) | (random_one_in(8) ? 0x80 : 0)); }
 
 /* An address in the window, seldom indirect or indexed. A branch takes the index bits for an address far off. */
 static void put_address(uint8_t *p, size_t n)
 {
-    size_t address = below(n);
-    p[0] = (uint8_t)(address >> 8 | (one_in(8) ? 0x80 : 0) | (one_in(4) ? below(4) << 5 : 0));
+    size_t address = random_below(n);
+    p[0] = (uint8_t)(address >> 8 | (random_one_in(8) ? 0x80 : 0) | (random_one_in(4) ? random_below(4) << 5 : 0));
     p[1] = (uint8_t)address;
 }
 
@@ -55,8 +54,8 @@ static size_t put_instruction(uint8_t *p, size_t n)
 static void fill_instructions(uint8_t *window, size_t n)
 {
     static const uint8_t back[] = { 0x1F, 0x00, 0x00 };
-    size_t at = 0, end = between(1, n < 120 ? n : 120);
-    if (one_in(2)) memset(window, 0, n);
+    size_t at = 0, end = random_between(1, n < 120 ? n : 120);
+    if (random_one_in(2)) memset(window, 0, n);
     else random_bytes(window, n);
     while (at + 6 <= end) at += put_instruction(window + at, n);
     if (at + sizeof back <= n) memcpy(window + at, back, sizeof back);
@@ -65,7 +64,7 @@ static void fill_instructions(uint8_t *window, size_t n)
 typedef struct {
     size_t length;
     uint8_t code[12];
-    int8_t any;             /* the offset of a byte that may be anything, or -1 */
+    int8_t free_offset;             /* the offset of a byte that may be anything, or -1 */
 } loop;
 
 static const loop loops[] = {
@@ -84,11 +83,12 @@ static const loop loops[] = {
 /* A loop at address 0, or as much of it as the window holds. */
 static void fill_loop(uint8_t *window, size_t n)
 {
-    const loop *l = &ONE_OF(loops);
-    if (one_in(2)) memset(window, 0, n);
+    const loop *l = &RANDOM_OF(loops);
+    if (random_one_in(2)) memset(window, 0, n);
     else fill_lasting(window, n);
     memcpy(window, l->code, l->length < n ? l->length : n);
-    if (l->any >= 0 && (size_t)l->any < n && one_in(2)) window[l->any] = (uint8_t)random64();
+    if (l->free_offset >= 0 && (size_t)l->free_offset < n && random_one_in(2))
+        window[l->free_offset] = (uint8_t)random64();
 }
 
 /* A few instructions that do nothing, and then one at which every machine stops. */
@@ -96,13 +96,13 @@ static void fill_stop(uint8_t *window, size_t n)
 {
     static const uint8_t last[] = { 0x40, 0x00, 0x10, 0xB7, 0xC4, 0x30, 0x54, 0xB0, 0xD7 };
     memset(window, 0xC0, n);
-    window[below(n < 40 ? n : 40)] = ONE_OF(last);
+    window[random_below(n < 40 ? n : 40)] = RANDOM_OF(last);
 }
 
 void program_fill(uint8_t *window, size_t n)
 {
     if (!n) return;
-    switch (below(16)) {
+    switch (random_below(16)) {
     case 0: random_bytes(window, n); break;
     case 1: case 2: fill_lasting(window, n); break;
     case 3: case 4: case 5: fill_instructions(window, n); break;

@@ -21,11 +21,14 @@ uint64_t random64(void)
     return state * 0x2545F4914F6CDD1Du;
 }
 
-size_t below(size_t n) { return n ? (size_t)((random64() >> 16) % n) : 0; }
+size_t random_below(size_t n) { return n ? (size_t)((random64() >> 16) % n) : 0; }
 
-size_t between(size_t least, size_t most) { return most < least ? least : least + below(most - least + 1); }
+size_t random_between(size_t least, size_t most)
+{
+    return most < least ? least : least + random_below(most - least + 1);
+}
 
-int one_in(size_t n) { return below(n) == 0; }
+int random_one_in(size_t n) { return random_below(n) == 0; }
 
 void random_bytes(uint8_t *bytes, size_t n)
 {
@@ -36,17 +39,17 @@ void random_bytes(uint8_t *bytes, size_t n)
     }
 }
 
-size_t other_length(size_t n)
+size_t random_other_length(size_t n)
 {
     size_t length;
     do {
-        switch (below(6)) {
+        switch (random_below(6)) {
         case 0: length = 0; break;
         case 1: length = n - 1; break;
         case 2: length = n + 1; break;
         case 3: length = 2 * n; break;
         case 4: length = 1; break;
-        default: length = below(2 * n + 2); break;
+        default: length = random_below(2 * n + 2); break;
         }
     } while (length == n || length > 2 * n + 2);
     return length;

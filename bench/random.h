@@ -6,14 +6,14 @@
 
 void random_seed(uint64_t seed);
 uint64_t random64(void);
-size_t below(size_t n);             /* 0 to n - 1; 0 for n of 0 */
-size_t between(size_t least, size_t most);
-int one_in(size_t n);
+size_t random_below(size_t n);             /* 0 to n - 1; 0 for n of 0 */
+size_t random_between(size_t least, size_t most);
+int random_one_in(size_t n);
 void random_bytes(uint8_t *bytes, size_t n);
 
 /* one of a list of numbers */
-#define ONE_OF(list) ((list)[below(sizeof(list) / sizeof((list)[0]))])
+#define RANDOM_OF(list) ((list)[random_below(sizeof(list) / sizeof((list)[0]))])
 
 /* a length that is not n: none at all, one less, one more, twice as long, or any */
-size_t other_length(size_t n);
+size_t random_other_length(size_t n);
 #endif

@@ -1,6 +1,7 @@
 #include "random_machines.h"
+#include "programs.h"
 #include "random.h"
-#include "twin.h"
+#include "machine_pair.h"
 #include <inttypes.h>
 #include <stdio.h>
 #include <string.h>
@@ -8,16 +9,19 @@
 /* small ones, ones about a page's end, and any up to the largest */
 static uint16_t random_window(void)
 {
-    switch (below(8)) {
-    case 0: return (uint16_t)(1 + below(8));
-    case 1: return (uint16_t)(8192 * (1 + below(4)) - 4 + below(8) - (one_in(2) ? 0 : 1));
-    case 2: return (uint16_t)(1 + below(32768));
+    switch (random_below(8)) {
+    case 0: return (uint16_t)(1 + random_below(8));
+    case 1: return (uint16_t)(8192 * (1 + random_below(4)) - 4 + random_below(8) - (random_one_in(2) ? 0 : 1));
+    case 2: return (uint16_t)(1 + random_below(32768));
     case 3: return 32768;
-    default: return (uint16_t)(16 + below(600));
+    default: return (uint16_t)(16 + random_below(600));
     }
 }
 
-static uint16_t random_capacity(void) { return (uint16_t)(one_in(8) ? 1 + below(4096) : 1 + below(24)); }
+static uint16_t random_capacity(void)
+{
+    return (uint16_t)(random_one_in(8) ? 1 + random_below(4096) : 1 + random_below(24));
+}
 
 static layout random_layout(void)
 {
@@ -26,43 +30,34 @@ static layout random_layout(void)
     return (layout){ window, random_capacity(), random_capacity() };
 }
 
-/* codes at which a machine stops at once: a window without them runs longer */
-static int stops(uint8_t code)
-{
-    static const uint8_t unknown[] = { 0x00, 0x10, 0x11, 0x90, 0x91, 0xB6, 0xB7, 0xC4, 0xC5, 0xC6, 0xC7, 0x40 };
-    for (size_t i = 0; i < sizeof unknown; i++)
-        if (code == unknown[i]) return 1;
-    return (code & 0x7C) == 0x30 || (code & 0x7C) == 0x54;
-}
-
 static void random_code(uint8_t *p, size_t n)
 {
     for (size_t i = 0; i < n; i++) {
         p[i] = (uint8_t)random64();
-        while (stops(p[i]) && !one_in(16)) p[i] = (uint8_t)random64();
+        while (code_stops_at_once(p[i]) && !random_one_in(16)) p[i] = (uint8_t)random64();
     }
 }
 
 /* anywhere, most often inside the window, often where a page ends */
-static uint16_t random_address(const twin *t)
+static uint16_t random_address(const machine_pair *t)
 {
-    if (one_in(16)) return (uint16_t)below(32768);
-    if (one_in(4)) return (uint16_t)((8192 * (1 + below(4)) - 3 + below(6)) % 32768);
-    return (uint16_t)below(t->layout.window);
+    if (random_one_in(16)) return (uint16_t)random_below(32768);
+    if (random_one_in(4)) return (uint16_t)((8192 * (1 + random_below(4)) - 3 + random_below(6)) % 32768);
+    return (uint16_t)random_below(t->layout.window);
 }
 
 /* statuses 3 and 4 as a sound machine has them: nothing unread, output full */
 static uint8_t random_status(ref2650 *m)
 {
-    if (!one_in(32)) return ST_RUN;
-    uint8_t status = (uint8_t)(1 + below(7));
+    if (!random_one_in(32)) return ST_RUN;
+    uint8_t status = (uint8_t)(1 + random_below(7));
     if (status == ST_WANTS) m->read = m->filled;
     if (status == ST_FULL) m->written = m->output;
     return status;
 }
 
 /* any sound state */
-static void random_machine(twin *t)
+static void random_machine(machine_pair *t)
 {
     ref2650 *m = &t->reference;
     m->pc = random_address(t);
@@ -71,9 +66,9 @@ static void random_machine(twin *t)
     m->psu = (uint8_t)(random64() & PSU_STORED);
     m->psl = (uint8_t)random64();
     for (int i = 0; i < 8; i++) m->ras[i] = random_address(t);
-    m->filled = (uint16_t)below(m->input + 1u);
-    m->read = (uint16_t)below(m->filled + 1u);
-    m->written = (uint16_t)below(m->output + 1u);
+    m->filled = (uint16_t)random_below(m->input + 1u);
+    m->read = (uint16_t)random_below(m->filled + 1u);
+    m->written = (uint16_t)random_below(m->output + 1u);
     m->status = random_status(m);
 }
 
@@ -82,23 +77,23 @@ typedef struct {
     uint8_t met[256];  /* first bytes of instructions with which a piece began */
 } counts;
 
-static void note_code(const twin *t, counts *n)
+static void note_code(const machine_pair *t, counts *n)
 {
     const ref2650 *m = &t->reference;
     if (m->status == ST_RUN && m->pc < m->window) n->met[m->window_bytes[m->pc]] = 1;
 }
 
 /* Pieces of random length until the machine stops or a few are done. */
-static const char *run_pieces(twin *t, counts *n)
+static const char *run_pieces(machine_pair *t, counts *n)
 {
-    size_t left = 1 + below(12);
+    size_t left = 1 + random_below(12);
     do {
-        uint64_t quantum = one_in(8) ? below(256) : below(12);
-        uint64_t rounds = one_in(8) ? below(20) : below(4);
+        uint64_t quantum = random_one_in(8) ? random_below(256) : random_below(12);
+        uint64_t rounds = random_one_in(8) ? random_below(20) : random_below(4);
         note_code(t, n);
-        n->steps += twin_run(t, quantum, rounds);
+        n->steps += machine_pair_run(t, quantum, rounds);
         n->pieces++;
-        const char *what = twin_difference(t);
+        const char *what = machine_pair_difference(t);
         if (what) return what;
     } while (--left && t->reference.status == ST_RUN);
     return NULL;
@@ -108,21 +103,21 @@ static const char *run_pieces(twin *t, counts *n)
 static const char *run_case(uint64_t seed, counts *n)
 {
     random_seed(seed);
-    twin t = twin_new(random_layout(), below(3) * below(40));
-    if (one_in(4)) random_bytes(t.reference.window_bytes, t.layout.window);
+    machine_pair t = machine_pair_new(random_layout(), random_below(3) * random_below(40));
+    if (random_one_in(4)) random_bytes(t.reference.window_bytes, t.layout.window);
     else random_code(t.reference.window_bytes, t.layout.window);
     random_bytes(t.reference.input_bytes, (size_t)t.layout.input + t.layout.output);
     unsigned machines = t.layout.window > 1000 ? 200 : 20;
     const char *what = NULL;
     while (machines-- && !what) {
         random_machine(&t);
-        twin_same(&t);
+        machine_pair_copy_to_product(&t);
         what = run_pieces(&t, n);
         n->machines++;
         n->stopped[t.reference.status & 7]++;
     }
     n->cases++;
-    twin_free(&t);
+    machine_pair_free(&t);
     return what;
 }
 

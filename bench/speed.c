@@ -1,6 +1,6 @@
 #define _POSIX_C_SOURCE 200809L
 #include "speed.h"
-#include "systems.h"
+#include "timed_systems.h"
 #include <dirent.h>
 #include <stdio.h>
 #include <stdlib.h>
@@ -8,9 +8,9 @@
 #include <time.h>
 
 /* A machine alone, and rounds of 1, 2 and 8 slots: each at quanta of 255 and of 1. */
-enum { QUANTA = 2, WAYS = 4, ALONE = 0, SWEEPS = 20, RUNS = 21, STEPS = 60000, MOST = 64 };
+enum { QUANTA = 2, SETUPS = 4, ALONE = 0, SWEEPS = 20, RUNS = 21, STEPS = 60000, MAX_PATTERNS = 64 };
 static const uint8_t quanta[QUANTA] = { 255, 1 };
-static const unsigned slots_of[WAYS] = { 0, 1, 2, 8 };
+static const unsigned slots_in_setup[SETUPS] = { 0, 1, 2, 8 };
 
 typedef struct {
     double reference, product;  /* seconds of the best run so far */
@@ -20,21 +20,21 @@ typedef struct {
 typedef struct {
     char name[64];
     pattern pattern;
-    timing at[QUANTA][WAYS];
+    timing timings[QUANTA][SETUPS];
     const char *different;
     int not_timed;
 } row;
 
-static row rows[MOST];
+static row rows[MAX_PATTERNS];
 
-static double now(void)
+static double seconds_now(void)
 {
     struct timespec t;
     clock_gettime(CLOCK_MONOTONIC, &t);
     return (double)t.tv_sec + (double)t.tv_nsec * 1e-9;
 }
 
-static void keep(timing *best, double start, double middle, double end)
+static void keep_best(timing *best, double start, double middle, double end)
 {
     if (middle - start < best->reference) best->reference = middle - start;
     if (end - middle < best->product) best->product = end - middle;
@@ -43,50 +43,50 @@ static void keep(timing *best, double start, double middle, double end)
 static void time_alone(row *r, unsigned quantum, timing *best)
 {
     uint64_t rounds = STEPS / quantum;
-    twin t = twin_new(r->pattern.layout, 0);
+    machine_pair t = machine_pair_new(r->pattern.layout, 0);
     best->steps = (double)(rounds * quantum);
     for (int i = 0; i < RUNS && !r->different; i++) {
         pattern_load(&r->pattern, &t);
-        double start = now();
+        double start = seconds_now();
         for (uint64_t k = 0; k < rounds; k++) ref_machine_run(&t.reference, quantum);
-        double middle = now();
+        double middle = seconds_now();
         pf_machine_run(t.state.bytes, t.state.length, t.partition.bytes, t.partition.length,
                        t.layout.window, t.layout.input, t.layout.output, quantum, rounds);
-        keep(best, start, middle, now());
-        r->different = twin_difference(&t);
+        keep_best(best, start, middle, seconds_now());
+        r->different = machine_pair_difference(&t);
     }
     r->not_timed |= t.reference.status != ST_RUN;
-    twin_free(&t);
+    machine_pair_free(&t);
 }
 
 static void time_rounds(row *r, unsigned quantum, unsigned slots, timing *best)
 {
-    static systems loaded, both;
+    static timed_systems loaded, both;
     uint16_t rounds = (uint16_t)(STEPS / (quantum * slots));
     best->steps = (double)rounds * quantum * slots;
-    if (!systems_load(&loaded, &r->pattern, slots, (uint8_t)quantum)) {
+    if (!timed_systems_load(&loaded, &r->pattern, slots, (uint8_t)quantum)) {
         r->not_timed = 1;
         return;
     }
     for (int i = 0; i < RUNS && !r->different; i++) {
         both = loaded;
-        double start = now();
+        double start = seconds_now();
         ref_run(&both.reference_table, both.reference_memory, sizeof both.reference_memory, rounds);
-        double middle = now();
+        double middle = seconds_now();
         pf_run(both.table, sizeof both.table, both.memory, sizeof both.memory, rounds);
-        keep(best, start, middle, now());
-        r->different = systems_difference(&both);
+        keep_best(best, start, middle, seconds_now());
+        r->different = timed_systems_difference(&both);
     }
-    r->not_timed |= !systems_running(&both, slots);
+    r->not_timed |= !timed_systems_running(&both, slots);
 }
 
 static void time_row(row *r)
 {
     for (int q = 0; q < QUANTA; q++)
-        for (int way = 0; way < WAYS; way++) {
-            timing *best = &r->at[q][way];
-            if (way == ALONE) time_alone(r, quanta[q], best);
-            else time_rounds(r, quanta[q], slots_of[way], best);
+        for (int setup = 0; setup < SETUPS; setup++) {
+            timing *best = &r->timings[q][setup];
+            if (setup == ALONE) time_alone(r, quanta[q], best);
+            else time_rounds(r, quanta[q], slots_in_setup[setup], best);
         }
 }
 
@@ -105,17 +105,17 @@ static int print_row(const row *r)
         return 0;
     }
     for (int q = 0; q < QUANTA; q++) {
-        for (int way = 0; way < WAYS; way++) printf(" %5.2f", ratio(&r->at[q][way]));
+        for (int setup = 0; setup < SETUPS; setup++) printf(" %5.2f", ratio(&r->timings[q][setup]));
         printf("  ");
     }
-    const timing *alone = &r->at[0][ALONE];
-    for (int way = 1; way < WAYS; way++) {
-        const timing *t = &r->at[0][way];
+    const timing *alone = &r->timings[0][ALONE];
+    for (int setup = 1; setup < SETUPS; setup++) {
+        const timing *t = &r->timings[0][setup];
         printf(" %5.2f", rate(t, t->product) / rate(alone, alone->product));
     }
     printf("  ");
     for (int q = 0; q < QUANTA; q++) {
-        const timing *t = &r->at[q][ALONE];
+        const timing *t = &r->timings[q][ALONE];
         printf("  %4.0f (%4.0f)", rate(t, t->product), rate(t, t->reference));
     }
     printf("\n");
@@ -142,7 +142,7 @@ static int read_row(row *r, const char *directory, const char *name)
     snprintf(path, sizeof path, "%s/%s", directory, name);
     snprintf(r->name, sizeof r->name, "%.*s", (int)(strlen(name) - 4), name);
     for (int q = 0; q < QUANTA; q++)
-        for (int way = 0; way < WAYS; way++) r->at[q][way] = (timing){ 1e9, 1e9, 0 };
+        for (int setup = 0; setup < SETUPS; setup++) r->timings[q][setup] = (timing){ 1e9, 1e9, 0 };
     if (pattern_read(path, &r->pattern)) return 1;
     fprintf(stderr, "%s: not a pattern file\n", path);
     return 0;
@@ -156,7 +156,7 @@ int speed(const char *directory)
         perror(directory);
         return 2;
     }
-    int count = found < MOST ? found : MOST;
+    int count = found < MAX_PATTERNS ? found : MAX_PATTERNS;
     for (int i = 0; i < count; i++)
         if (!read_row(&rows[i], directory, names[i]->d_name)) return 2;
     /* several sweeps over all patterns: another program's busy second then spoils no pattern's number */

@@ -5,64 +5,64 @@
 #include "random.h"
 #include <string.h>
 
-enum { WINDOW_MOST = 32768, CAPACITY_MOST = 4096, ADDRESSES = 32768 };
+enum { MAX_WINDOW = 32768, MAX_CAPACITY = 4096, ADDRESSES = 32768 };
 
 size_t partition_size(const ref_slot *s) { return (size_t)s->window + s->input + s->output; }
 size_t partition_end(const ref_slot *s) { return s->base + partition_size(s); }
 
-static size_t least(size_t a, size_t b) { return a < b ? a : b; }
+static size_t smaller(size_t a, size_t b) { return a < b ? a : b; }
 
 /* ---- sound tables */
 
 /* anywhere, most often inside the window, often where a page ends */
 static uint16_t random_address(const ref_slot *s)
 {
-    if (one_in(16)) return (uint16_t)below(ADDRESSES);
-    if (one_in(8)) return (uint16_t)((8192 * between(1, 4) - 3 + below(6)) % ADDRESSES);
-    return (uint16_t)below(s->window);
+    if (random_one_in(16)) return (uint16_t)random_below(ADDRESSES);
+    if (random_one_in(8)) return (uint16_t)((8192 * random_between(1, 4) - 3 + random_below(6)) % ADDRESSES);
+    return (uint16_t)random_below(s->window);
 }
 
 /* statuses 3 and 4 as a sound table has them: nothing unread, output full */
 static void random_status(ref_slot *s)
 {
-    s->status = (uint8_t)(one_in(3) ? between(1, 7) : ST_RUN);
+    s->status = (uint8_t)(random_one_in(3) ? random_between(1, 7) : ST_RUN);
     if (s->status == ST_WANTS) s->read = s->filled;
     if (s->status == ST_FULL) s->written = s->output;
 }
 
 static void random_state(ref_slot *s)
 {
-    s->pc = one_in(2) ? 0 : random_address(s);
+    s->pc = random_one_in(2) ? 0 : random_address(s);
     s->r0 = (uint8_t)random64();
     random_bytes(&s->bank[0][0], sizeof s->bank);
     s->psu = (uint8_t)(random64() & PSU_STORED);
     s->psl = (uint8_t)random64();
     for (int i = 0; i < 8; i++) s->ras[i] = random_address(s);
-    s->filled = (uint16_t)(one_in(4) ? s->input : below(s->input + 1u));
-    s->read = (uint16_t)(one_in(4) ? s->filled : below(s->filled + 1u));
-    s->written = (uint16_t)(one_in(4) ? s->output : below(s->output + 1u));
+    s->filled = (uint16_t)(random_one_in(4) ? s->input : random_below(s->input + 1u));
+    s->read = (uint16_t)(random_one_in(4) ? s->filled : random_below(s->filled + 1u));
+    s->written = (uint16_t)(random_one_in(4) ? s->output : random_below(s->output + 1u));
     random_status(s);
 }
 
 /* mostly small, sometimes the largest that fits */
 static uint16_t random_capacity(size_t room)
 {
-    size_t most = least(room, CAPACITY_MOST);
-    if (one_in(10)) return (uint16_t)most;
-    return (uint16_t)between(1, one_in(8) ? most : least(most, 24));
+    size_t most = smaller(room, MAX_CAPACITY);
+    if (random_one_in(10)) return (uint16_t)most;
+    return (uint16_t)random_between(1, random_one_in(8) ? most : smaller(most, 24));
 }
 
 /* A partition at or behind a location, if one still fits before the memory's end. Answers where the next may start. */
 static size_t random_partition(ref_slot *s, size_t location, size_t length)
 {
-    size_t start = one_in(2) ? location : location + below(60);
+    size_t start = random_one_in(2) ? location : location + random_below(60);
     if (start + 3 > length) return location;
-    size_t all = between(3, least(length - start, one_in(10) ? WINDOW_MOST + 2 * CAPACITY_MOST : 700));
+    size_t all = random_between(3, smaller(length - start, random_one_in(10) ? MAX_WINDOW + 2 * MAX_CAPACITY : 700));
     s->base = (uint32_t)start;
     s->input = random_capacity(all - 2);
     s->output = random_capacity(all - 1 - s->input);
-    s->window = (uint32_t)least(all - s->input - s->output, WINDOW_MOST);
-    s->quantum = (uint8_t)(one_in(4) ? 255 : between(1, 20));
+    s->window = (uint32_t)smaller(all - s->input - s->output, MAX_WINDOW);
+    s->quantum = (uint8_t)(random_one_in(4) ? 255 : random_between(1, 20));
     random_state(s);
     return partition_end(s);
 }
@@ -70,12 +70,12 @@ static size_t random_partition(ref_slot *s, size_t location, size_t length)
 /* Partitions from the memory's start on, in slots in any order. */
 void table_random(ref_table *table, uint8_t *memory, size_t length)
 {
-    size_t location = 0, first = below(SLOTS), step = 1 + 2 * below(4);
+    size_t location = 0, first = random_below(SLOTS), step = 1 + 2 * random_below(4);
     memset(table, 0, sizeof *table);
     table->memory_length = (uint32_t)length;
     for (size_t i = 0; i < SLOTS; i++) {
         ref_slot *s = &table->slots[(first + i * step) % SLOTS];
-        if (one_in(4)) continue;
+        if (random_one_in(4)) continue;
         location = random_partition(s, location, length);
         program_fill(memory + s->base, s->window);
     }
@@ -86,16 +86,19 @@ void table_random(ref_table *table, uint8_t *memory, size_t length)
 static uint16_t edge16(void)
 {
     static const uint16_t edges[] = { 0, 1, 2, 255, 256, 4095, 4096, 4097, 8192, 32767, 32768, 32769, 65535 };
-    return ONE_OF(edges);
+    return RANDOM_OF(edges);
 }
 
 /* an edge, or the number beside the one that is there: a step past the largest then changes nothing else */
-static uint16_t edge_or_next(uint32_t n) { return one_in(2) ? edge16() : (uint16_t)(n + 1 - 2 * below(2)); }
+static uint16_t edge_or_next(uint32_t n)
+{
+    return random_one_in(2) ? edge16() : (uint16_t)(n + 1 - 2 * random_below(2));
+}
 
 static uint8_t edge8(void)
 {
     static const uint8_t edges[] = { 0, 1, 2, 7, 8, 0x10, 0x40, 0x7F, 0x80, 0xFF };
-    return ONE_OF(edges);
+    return RANDOM_OF(edges);
 }
 
 /* about the memory's length, the largest memory, and the largest number: sums with these must not wrap round */
@@ -105,31 +108,31 @@ static uint32_t edge32(const ref_table *table, const ref_slot *s)
     const uint32_t edges[] = { 0, 1, 65535, 65536, 65537, UINT32_MAX, UINT32_MAX - size, 0u - size, 1u << 31,
                                end, end - 1, end + 1, end - size, end - size + 1,
                                s->base + 65536, s->base + 1, s->base - 1 };
-    return ONE_OF(edges);
+    return RANDOM_OF(edges);
 }
 
 /* beside another partition, or one byte into it */
-static uint32_t beside(const ref_slot *s, const ref_slot *other)
+static uint32_t location_beside(const ref_slot *s, const ref_slot *other)
 {
     size_t end = partition_end(other), front = other->base - partition_size(s);
     const size_t locations[] = { end, end - 1, front, front + 1, other->base };
-    return (uint32_t)ONE_OF(locations);
+    return (uint32_t)RANDOM_OF(locations);
 }
 
 /* a field set to an edge of its own */
 static void set_edge(ref_table *table, ref_slot *s)
 {
-    switch (below(14)) {
+    switch (random_below(14)) {
     case 0: s->base = edge32(table, s); break;
     case 1: s->window = edge_or_next(s->window); break;
     case 2: s->input = edge_or_next(s->input); break;
     case 3: s->output = edge_or_next(s->output); break;
     case 4: s->quantum = edge8(); break;
     case 5: s->pc = edge16(); break;
-    case 6: s->ras[below(8)] = edge16(); break;
-    case 7: s->psu ^= (uint8_t)(1u << below(8)); break;
+    case 6: s->ras[random_below(8)] = edge16(); break;
+    case 7: s->psu ^= (uint8_t)(1u << random_below(8)); break;
     case 8: s->psl = edge8(); break;
-    case 9: s->status = one_in(4) ? edge8() : (uint8_t)below(9); break;
+    case 9: s->status = random_one_in(4) ? edge8() : (uint8_t)random_below(9); break;
     case 10: s->filled = edge16(); break;
     case 11: s->read = edge16(); break;
     case 12: s->written = edge16(); break;
@@ -140,16 +143,18 @@ static void set_edge(ref_table *table, ref_slot *s)
 /* a field set to an edge that another field gives */
 static void set_relation(ref_table *table, ref_slot *s)
 {
-    switch (below(9)) {
-    case 0: s->read = (uint16_t)(s->filled + below(2)); break;
-    case 1: s->filled = (uint16_t)(s->input + below(2)); break;
-    case 2: s->written = (uint16_t)(s->output + below(2)); break;
-    case 3: s->input = (uint16_t)(s->filled - below(2)); break;
-    case 4: s->output = (uint16_t)(s->written - below(2)); break;
+    switch (random_below(9)) {
+    case 0: s->read = (uint16_t)(s->filled + random_below(2)); break;
+    case 1: s->filled = (uint16_t)(s->input + random_below(2)); break;
+    case 2: s->written = (uint16_t)(s->output + random_below(2)); break;
+    case 3: s->input = (uint16_t)(s->filled - random_below(2)); break;
+    case 4: s->output = (uint16_t)(s->written - random_below(2)); break;
     case 5: s->status = ST_WANTS; break;
     case 6: s->status = ST_FULL; break;
-    case 7: s->base = beside(s, &table->slots[below(SLOTS)]); break;
-    default: s->window = (uint32_t)(table->memory_length - s->base - s->input - s->output + below(2)) & 0xFFFF; break;
+    case 7: s->base = location_beside(s, &table->slots[random_below(SLOTS)]); break;
+    default:
+        s->window = (uint32_t)(table->memory_length - s->base - s->input - s->output + random_below(2)) & 0xFFFF;
+        break;
     }
 }
 
@@ -157,8 +162,8 @@ static void change_byte(ref_table *table)
 {
     uint8_t bytes[PF_TABLE_BYTES];
     encode_table(table, bytes);
-    size_t at = one_in(8) ? below(4) : below(sizeof bytes);
-    bytes[at] = one_in(2) ? (uint8_t)random64() : (uint8_t)(bytes[at] ^ 1u << below(8));
+    size_t at = random_one_in(8) ? random_below(4) : random_below(sizeof bytes);
+    bytes[at] = random_one_in(2) ? (uint8_t)random64() : (uint8_t)(bytes[at] ^ 1u << random_below(8));
     decode_table(bytes, table);
 }
 
@@ -166,7 +171,7 @@ static void change_all(ref_table *table)
 {
     uint8_t bytes[PF_TABLE_BYTES];
     random_bytes(bytes, sizeof bytes);
-    if (one_in(3)) memset(bytes, one_in(2) ? 0 : 0xFF, sizeof bytes);
+    if (random_one_in(3)) memset(bytes, random_one_in(2) ? 0 : 0xFF, sizeof bytes);
     decode_table(bytes, table);
 }
 
@@ -174,11 +179,11 @@ static void exchange(ref_slot *a, ref_slot *b)
 {
     ref_slot old = *a;
     *a = *b;
-    if (one_in(2)) *b = old;
+    if (random_one_in(2)) *b = old;
 }
 
 /* The table as its bytes have it: the reference compares padding too, which assignments may leave anyhow. */
-static void clean(ref_table *table)
+static void clear_padding(ref_table *table)
 {
     uint8_t bytes[PF_TABLE_BYTES];
     encode_table(table, bytes);
@@ -187,13 +192,13 @@ static void clean(ref_table *table)
 
 void table_damage(ref_table *table)
 {
-    ref_slot *s = &table->slots[below(SLOTS)];
-    switch (below(12)) {
+    ref_slot *s = &table->slots[random_below(SLOTS)];
+    switch (random_below(12)) {
     case 0: case 1: case 2: change_byte(table); break;
     case 3: case 4: case 5: case 6: set_edge(table, s); break;
     case 7: case 8: case 9: set_relation(table, s); break;
-    case 10: exchange(s, &table->slots[below(SLOTS)]); break;
-    default: if (one_in(4)) change_all(table); else set_edge(table, s); break;
+    case 10: exchange(s, &table->slots[random_below(SLOTS)]); break;
+    default: if (random_one_in(4)) change_all(table); else set_edge(table, s); break;
     }
-    clean(table);
+    clear_padding(table);
 }

@@ -8,27 +8,33 @@ static uint8_t data[1 << 20], file[1 << 17], memory[PF_LISTING_MEMORY], text[PF_
 static char made[PF_LISTING_BYTES + 1];
 
 typedef struct {
-    size_t name, text, packed;  /* lengths */
+    size_t name_length, text_length, packed_length;
     const uint8_t *bytes;       /* the name and what follows it */
 } entry;
 
 enum {
-    NUMBERS = 26,     /* the length of the numbers before the name */
-    REPEATED = 32768  /* what the head of a repeated byte has more than its count */
+    HEADER_LENGTH = 26,     /* the length of the numbers before the name */
+    REPEATED = 32768  /* added to the count in the head of a piece that repeats one byte */
 };
 
-static size_t word(const uint8_t *p) { return (size_t)(p[0] << 8 | p[1]); }
+static size_t u16_at(const uint8_t *p) { return (size_t)(p[0] << 8 | p[1]); }
 
-static entry entry_at(const uint8_t *p) { return (entry){ word(p), word(p + 2), word(p + 4), p + NUMBERS }; }
+static entry entry_at(const uint8_t *p)
+{
+    return (entry){ u16_at(p), u16_at(p + 2), u16_at(p + 4), p + HEADER_LENGTH };
+}
 
-static size_t entry_length(const entry *e) { return NUMBERS + e->name + e->text + e->packed; }
+static size_t entry_length(const entry *e)
+{
+    return HEADER_LENGTH + e->name_length + e->text_length + e->packed_length;
+}
 
 static size_t unpack(const entry *e)
 {
-    const uint8_t *from = e->bytes + e->name + e->text, *end = from + e->packed;
+    const uint8_t *from = e->bytes + e->name_length + e->text_length, *end = from + e->packed_length;
     uint8_t *to = file;
     while (from < end) {
-        size_t head = word(from), count = head % REPEATED;
+        size_t head = u16_at(from), count = head % REPEATED;
         from += 2;
         if (head < REPEATED) {
             memcpy(to, from, count);
@@ -41,21 +47,21 @@ static size_t unpack(const entry *e)
     return (size_t)(to - file);
 }
 
-static int same(const entry *e, const char *how, const void *got, size_t length)
+static int is_stored_text(const entry *e, const char *how, const void *got, size_t length)
 {
-    const uint8_t *wanted = e->bytes + e->name;
-    if (length == e->text && !memcmp(got, wanted, length)) return 1;
-    printf("differs %s: %.*s\nwanted:\n%.*sgot:\n%.*s", how, (int)e->name, (const char *)e->bytes,
-           (int)e->text, (const char *)wanted, (int)length, (const char *)got);
+    const uint8_t *expected = e->bytes + e->name_length;
+    if (length == e->text_length && !memcmp(got, expected, length)) return 1;
+    printf("differs %s: %.*s\nexpected:\n%.*sgot:\n%.*s", how, (int)e->name_length, (const char *)e->bytes,
+           (int)e->text_length, (const char *)expected, (int)length, (const char *)got);
     return 0;
 }
 
-static int agrees(const entry *e)
+static int entry_agrees(const entry *e)
 {
     size_t length = unpack(e);
     pf_answer listed = pf_listing(file, length, memory, sizeof memory, text, sizeof text);
     size_t n = listing(file, length, made);
-    return same(e, "call by call", made, n) & same(e, "by pf_listing", text, pf_count(listed));
+    return is_stored_text(e, "call by call", made, n) & is_stored_text(e, "by pf_listing", text, pf_count(listed));
 }
 
 int vectors(const char *path)
@@ -74,7 +80,7 @@ int vectors(const char *path)
             printf("%s ends inside an entry\n", path);
             return 1;
         }
-        different += !agrees(&e);
+        different += !entry_agrees(&e);
         at += entry_length(&e);
     }
     printf("%u bench runs, call by call and by pf_listing: %u different\n", count, different);

@@ -39,7 +39,7 @@ static void drain(size_t slot)
     for (unsigned i = 0; i < count; i++) printf(" %02X%s", out[i], i + 1 == count ? "\n" : "");
 }
 
-/* Both stand still once neither runs, and the second does not wait for text that is left. */
+/* Whether one of them runs, or the second waits while text is left. */
 static int working(const char *text)
 {
     return status(0) == PF_STATUS_RUNNING || status(1) == PF_STATUS_RUNNING

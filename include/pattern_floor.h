@@ -51,7 +51,7 @@ enum {
     PF_SHORT = 16           /* the buffer is too short for what it would be given */
 };
 
-/* What a slot is at: the first byte of a report. At 3 to 7 the counter is still at the instruction, of which nothing was carried out. */
+/* The status of a slot: the first byte of a report. At 3 to 7 the counter is still at the instruction, of which nothing was carried out. */
 enum {
     PF_STATUS_EMPTY = 0,        /* in a table; pf_report refuses such a slot by 5 */
     PF_STATUS_RUNNING = 1,
@@ -83,9 +83,9 @@ static inline unsigned pf_count(pf_answer answer) { return (unsigned)(answer & 0
  * A table is PF_TABLE_BYTES bytes that these calls write and read; between calls the host keeps them, and may copy, store and move
  * them. Every sound table has exactly one form as bytes. A table and its memory are a system: they are its whole state. */
 
-/* Makes a table of eight empty slots for a memory of `length` bytes, which is not touched. The table's old bytes do not matter.
+/* Makes a table of eight empty slots for a memory of `memory_length` bytes, which is not touched. The table's old bytes do not matter.
  * Refused: 1 (here only for the buffer's length), 2. */
-pf_answer pf_new(uint8_t *table, size_t table_length, size_t length);
+pf_answer pf_new(uint8_t *table, size_t table_length, size_t memory_length);
 
 /* Loads a pattern file into an empty slot. Its partition starts at `location` and takes window + input + output bytes, all of which are
  * written: the code, the first input, and zeros. The file is not needed afterwards.
@@ -114,7 +114,7 @@ pf_answer pf_drain(uint8_t *table, size_t table_length, const uint8_t *memory, s
  * Refused: 1, 2. */
 pf_answer pf_run(uint8_t *table, size_t table_length, uint8_t *memory, size_t memory_length, uint16_t rounds);
 
-/* Tells how a slot stands, in the first PF_REPORT_BYTES bytes of `report`; the rest is left:
+/* Reports on a slot, in the first PF_REPORT_BYTES bytes of `report`; the rest is left:
  *   0 status; 1 and 2 program counter, high byte first; 3 R0; 4 to 6 R1 to R3 of bank 0; 7 to 9 those of bank 1; 10 PSU; 11 PSL.
  * Bit 7 of PSU is Sense: 1 exactly while input is unread. A table does not store it.
  * Refused: 1, 3, 5, 16. */

@@ -1,7 +1,7 @@
 #!/usr/bin/env python3
 """Makes a pattern file of an assembled source: make_pattern.py primes.asm primes.pat
 
-A line of the source that starts with `.` gives a value of the record PB; one that starts with a hexadecimal address has the bytes
+A line of the source that starts with `.` gives a parameter, for the record PB; one that starts with a hexadecimal address has the bytes
 that its instruction was assembled to. The rest is for the reader.
 """
 import re
@@ -13,19 +13,19 @@ def record(mark, body):
 
 
 def main(source, target):
-    values, window = {}, bytearray()
+    parameters, window = {}, bytearray()
     for line in open(source):
-        value = re.match(r"\.(\w+) +(\d+)", line)
+        parameter = re.match(r"\.(\w+) +(\d+)", line)
         placed = re.match(r"([0-9A-F]{4})  ((?:[0-9A-F]{2} )+)", line)
-        if value:
-            values[value[1]] = int(value[2])
+        if parameter:
+            parameters[parameter[1]] = int(parameter[2])
         elif placed:
             at, code = int(placed[1], 16), bytes.fromhex(placed[2])
             window += bytes(at + len(code) - len(window))
             window[at:at + len(code)] = code
-    numbers = [values[name] for name in ("window", "input", "output", "start")]
-    partition = b"".join(n.to_bytes(2, "big") for n in numbers) + bytes([values["quantum"]])
-    records = record(b"PV", b"\1\1"), record(b"PB", partition), record(b"PC", bytes(window).rstrip(b"\0")), record(b"PI", b""), record(b"PE", b"")
+    numbers = [parameters[name] for name in ("window", "input", "output", "start")]
+    body = b"".join(n.to_bytes(2, "big") for n in numbers) + bytes([parameters["quantum"]])
+    records = record(b"PV", b"\1\1"), record(b"PB", body), record(b"PC", bytes(window).rstrip(b"\0")), record(b"PI", b""), record(b"PE", b"")
     open(target, "wb").write(b"".join(records))
 
 

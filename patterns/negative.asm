@@ -1,6 +1,6 @@
-# The negative of its input: each byte that is fed is put out with all its bits turned round. It never ends: it stops for input, and
+# The negative of its input: each byte that is fed is put out with every bit inverted. It never ends: it stops for input, and
 # where its output is full, and goes on when it is fed or drained.
-# The values of the pattern file, then: address, bytes, label, instruction of the Signetics 2650.
+# The pattern's parameters, then: address, bytes, label, instruction of the Signetics 2650.
 
 .window  6
 .input   4

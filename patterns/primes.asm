@@ -1,5 +1,5 @@
 # The primes below 256, by the sieve of Eratosthenes: each is put out as one byte.
-# The values of the pattern file, then: address, bytes, label, instruction of the Signetics 2650.
+# The pattern's parameters, then: address, bytes, label, instruction of the Signetics 2650.
 
 .window  512
 .input   1

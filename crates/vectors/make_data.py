@@ -4,6 +4,8 @@ what its bench run must print.
 
 usage: make_data.py BENCH.TXT vectors.bin
 
+bench.txt came with document 01, and is not in this repository.
+
 The text of a bench run is the one of bench.txt. What the reader has to answer is worked out here, by a reader of pattern files
 of form 1 that shares nothing with the product, and held against the `refused N` lines of bench.txt. (The bench run refuses a
 file of more than 36,895 bytes by 6 before it is read, so there the two may differ.)
@@ -24,12 +26,12 @@ repeat. A count is below 32,768.
 import itertools
 import sys
 
-LONGEST_FILE = 36895
-REPEATED = 32768  # what the head of a repeated byte has more than its count
-SHORTEST_RUN = 6  # a run of fewer bytes costs less among its neighbours
+MAX_FILE = 36895
+REPEATED_FLAG = 32768  # added to the count in the head of a piece that repeats one byte
+MIN_RUN = 6  # a run of fewer bytes costs less among its neighbours
 
 
-def numbers(*values):
+def u16s(*values):
     return b"".join(n.to_bytes(2, "big") for n in values)
 
 
@@ -110,22 +112,22 @@ def answered(file):
 
 def counted(run):
     """The run in parts that a count can count."""
-    return [run[at:at + REPEATED - 1] for at in range(0, len(run), REPEATED - 1)]
+    return [run[at:at + REPEATED_FLAG - 1] for at in range(0, len(run), REPEATED_FLAG - 1)]
 
 
 def copied(run):
-    return b"".join(numbers(len(part)) + part for part in counted(run))
+    return b"".join(u16s(len(part)) + part for part in counted(run))
 
 
 def repeated(run):
-    return b"".join(numbers(REPEATED + len(part)) + part[:1] for part in counted(run))
+    return b"".join(u16s(REPEATED_FLAG + len(part)) + part[:1] for part in counted(run))
 
 
 def packed(file):
     pieces, plain = b"", b""
     for _, same in itertools.groupby(file):
         run = bytes(same)
-        if len(run) < SHORTEST_RUN:
+        if len(run) < MIN_RUN:
             plain += run
         else:
             pieces += copied(plain) + repeated(run)
@@ -137,8 +139,8 @@ def unpacked(pieces):
     file, at = b"", 0
     while at < len(pieces):
         head = int.from_bytes(pieces[at:at + 2], "big")
-        stored = head if head < REPEATED else 1
-        file += pieces[at + 2:at + 2 + stored] * (1 if head < REPEATED else head - REPEATED)
+        stored = head if head < REPEATED_FLAG else 1
+        file += pieces[at + 2:at + 2 + stored] * (1 if head < REPEATED_FLAG else head - REPEATED_FLAG)
         at += 2 + stored
     return file
 
@@ -146,16 +148,16 @@ def unpacked(pieces):
 def entry(name, file, lines):
     answer = answered(file)
     said = int(lines[0].split()[1]) if lines[0].startswith("refused") else 0
-    assert answer[0] == said or len(file) > LONGEST_FILE and said == 6, (name, answer[0], said)
+    assert answer[0] == said or len(file) > MAX_FILE and said == 6, (name, answer[0], said)
     pieces = packed(file)
     assert unpacked(pieces) == file, name
     text = "".join(line + "\n" for line in lines)
-    return numbers(len(name), len(text), len(pieces), *answer) + name.encode() + text.encode() + pieces
+    return u16s(len(name), len(text), len(pieces), *answer) + name.encode() + text.encode() + pieces
 
 
 def main(bench, target):
     entries = [entry(*vector) for vector in vectors(bench)]
-    refused = sum(e[6:8] != numbers(0) for e in entries)
+    refused = sum(e[6:8] != u16s(0) for e in entries)
     out = b"".join(entries)
     open(target, "wb").write(out)
     print(f"{len(entries)} vectors, {len(entries) - refused} files accepted, {refused} refused, {len(out)} bytes")

@@ -3,7 +3,7 @@
 use mathlib.Core.Bool.{Bool}
 use mathlib.Core.List.{[], _∷_}
 use Prim.Native.Nat.{ℕ, _+_}
-use Rattle.common.specs.Ranges.{isWithin}
+use Rattle.common.specs.Ranges.{isOneTo}
 use Rattle.common.specs.Tests.{all}
 use Rattle.common.specs.declared.layout.Layout.{Layout}
 
@@ -13,4 +13,4 @@ layoutSize l = l .window + l .input + l .output
 
 -- a window of 1 to 32,768 bytes, and capacities of 1 to 4,096
 unfoldable pub layoutSound : Layout → Bool
-layoutSound l = all (isWithin (l .window) 32768 ∷ isWithin (l .input) 4096 ∷ isWithin (l .output) 4096 ∷ [])
+layoutSound l = all (isOneTo (l .window) 32768 ∷ isOneTo (l .input) 4096 ∷ isOneTo (l .output) 4096 ∷ [])

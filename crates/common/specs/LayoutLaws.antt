@@ -2,21 +2,21 @@
 use mathlib.Core.Bool.{true}
 use mathlib.Core.Path.{_≡_}
 use Rattle.common.specs.Layout.{layoutSound}
-use Rattle.common.specs.TestLaws.{Within, within-fact, within-test, all-fact, all-test}
+use Rattle.common.specs.TestLaws.{OneTo, one-to-fact, one-to-test, all-fact, all-test}
 use Rattle.common.specs.declared.layout.Layout.{Layout}
 
 pub record LayoutSound (l : Layout) : Type 0 where
-  pub window : Within (l .window) 32768
-  pub input : Within (l .input) 4096
-  pub output : Within (l .output) 4096
+  pub window : OneTo (l .window) 32768
+  pub input : OneTo (l .input) 4096
+  pub output : OneTo (l .output) 4096
 
 pub layout-fact : (l : Layout) → layoutSound l ≡ true → LayoutSound l
 unfolding layoutSound
 layout-fact l h =
     let (window, (input, (output, _))) = all-fact _ h in
-    record { window = within-fact _ 32768 window; input = within-fact _ 4096 input; output = within-fact _ 4096 output }
+    record { window = one-to-fact _ 32768 window; input = one-to-fact _ 4096 input; output = one-to-fact _ 4096 output }
 
 pub layout-test : (l : Layout) → LayoutSound l → layoutSound l ≡ true
 unfolding layoutSound
 layout-test l f =
-    all-test _ (within-test _ 32768 (f .window), (within-test _ 4096 (f .input), (within-test _ 4096 (f .output), tt)))
+    all-test _ (one-to-test _ 32768 (f .window), (one-to-test _ 4096 (f .input), (one-to-test _ 4096 (f .output), tt)))

@@ -6,7 +6,7 @@ pub mod Refusals
 pub mod Repetition
 pub mod Layout
 -- Names for lists of definitions.
-pub mod RefusalDefinitions
+pub mod ConditionDefinitions
 -- Laws that the checker has shown.
 pub mod TestLaws
 pub mod RefusalLaws

@@ -4,5 +4,5 @@ use lib.Dec.{leb}
 use mathlib.Core.Bool.{Bool, _&&_}
 
 -- n is 1 to most
-abbrev pub isWithin : ℕ → ℕ → Bool
-isWithin n most = leb 1 n && leb n most
+abbrev pub isOneTo : ℕ → ℕ → Bool
+isOneTo n most = leb 1 n && leb n most

@@ -46,17 +46,17 @@ module _ {A : Type 0} (refused : ℕ → A) where
 -- ---- numbers that refuse
 
 -- no condition that holds gives 0
-abbrev pub Numbered : List Condition → Type 0
-Numbered [] = Unit {0}
-Numbered (k ∷ ks) = (k .holds ≡ true → 1 ≤ k .number) × Numbered ks
+abbrev pub NoneGivesZero : List Condition → Type 0
+NoneGivesZero [] = Unit {0}
+NoneGivesZero (k ∷ ks) = (k .holds ≡ true → 1 ≤ k .number) × NoneGivesZero ks
 
--- a number that is given exactly if it is not 0
+-- a condition that holds exactly if its number is not 0
 pub given-numbered : (n : ℕ) → not (eqb n 0) ≡ true → 1 ≤ n
 given-numbered zero e = absurd (false≢true e)
 given-numbered (suc n) e = omega arith
 
 -- two lists, one behind the other
-pub numbered-parts : (ks more : List Condition) → Numbered ks → Numbered more → Numbered (ks ++ more)
+pub numbered-parts : (ks more : List Condition) → NoneGivesZero ks → NoneGivesZero more → NoneGivesZero (ks ++ more)
 numbered-parts [] more n m = m
 numbered-parts (k ∷ ks) more n m = (n .0, numbered-parts ks more (n .1) m)
 
@@ -64,8 +64,8 @@ pub none-parts : (ks more : List Condition) → NoneHolds (ks ++ more) → NoneH
 none-parts [] more h = (tt, h)
 none-parts (k ∷ ks) more h = let r = none-parts ks more (h .1) in ((h .0, r .0), r .1)
 
--- then 0 says that none of a front holds, and leaves it to the rest
-pub zero-parts : (ks more : List Condition) → Numbered ks → refusalBy (ks ++ more) ≡ 0 → NoneHolds ks × (refusalBy more ≡ 0)
+-- then the refusal 0 of two lists says that none of the first holds, and that the second refuses nothing
+pub zero-parts : (ks more : List Condition) → NoneGivesZero ks → refusalBy (ks ++ more) ≡ 0 → NoneHolds ks × (refusalBy more ≡ 0)
 unfolding refusalBy unless if_then_else_
 zero-parts [] more n e = (tt, e)
 zero-parts (k ∷ ks) more n e = go (k .holds) refl e (zero-parts ks more (n .1))
@@ -75,11 +75,11 @@ zero-parts (k ∷ ks) more n e = go (k .holds) refl e (zero-parts ks more (n .1)
     go true q e further = let p : 1 ≤ k .number = n .0 q in absurd (omega arith)
     go false q e further = let r = further e in ((q, r .0), r .1)
 
-pub none-holds : (ks : List Condition) → Numbered ks → refusalBy ks ≡ 0 → NoneHolds ks
+pub none-holds : (ks : List Condition) → NoneGivesZero ks → refusalBy ks ≡ 0 → NoneHolds ks
 none-holds ks n e = zero-parts ks [] n (ap refusalBy (append-nil ks) ∙ e) .0
 
--- a front that refuses nothing leaves it to the rest
-pub refusal-parts : (ks more : List Condition) → Numbered ks
+-- two lists refuse as the second does, if the first refuses nothing
+pub refusal-parts : (ks more : List Condition) → NoneGivesZero ks
     → refusalBy (ks ++ more) ≡ (if eqb (refusalBy ks) 0 then refusalBy more else refusalBy ks)
 unfolding refusalBy unless if_then_else_
 refusal-parts [] more n = refl
@@ -92,10 +92,10 @@ refusal-parts (k ∷ ks) more n = go (k .holds) refl (refusal-parts ks more (n .
     go true q further = let p : 1 ≤ k .number = n .0 q in rw (ne-eqb (k .number) 0 (λ e. omega arith))
     go false q further = further
 
-pub refused-by-front : (ks more : List Condition) → Numbered ks → {n : ℕ} → n ≡ refusalBy ks → (n ≡ 0 → ⊥) → n ≡ refusalBy (ks ++ more)
+pub refused-by-front : (ks more : List Condition) → NoneGivesZero ks → {n : ℕ} → n ≡ refusalBy ks → (n ≡ 0 → ⊥) → n ≡ refusalBy (ks ++ more)
 unfolding if_then_else_
 refused-by-front ks more h {n} e some = sym (refusal-parts ks more h ∙ rw (← e, ne-eqb n 0 some))
 
-pub left-to-rest : (ks more : List Condition) → Numbered ks → {n : ℕ} → n ≡ refusalBy ks → n ≡ 0 → refusalBy (ks ++ more) ≡ refusalBy more
+pub left-to-rest : (ks more : List Condition) → NoneGivesZero ks → {n : ℕ} → n ≡ refusalBy ks → n ≡ 0 → refusalBy (ks ++ more) ≡ refusalBy more
 unfolding if_then_else_
 left-to-rest ks more h {n} e none = refusal-parts ks more h ∙ rw (← e, none)

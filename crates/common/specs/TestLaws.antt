@@ -8,8 +8,8 @@ use native.Mathlib.Decide.{ℕ-discrete}
 use native.Mathlib.Omega.{arith}
 use borrow.Author.Tests.{leb-true, le-leb, eqb-true, eq-eqb, ne-eqb}
 use lib.Dec.{eqb, leb}
-use Rattle.common.specs.Ranges.{isWithin}
-use Rattle.common.specs.Tests.{allAfter, all, allBelow}
+use Rattle.common.specs.Ranges.{isOneTo}
+use Rattle.common.specs.Tests.{andAll, all, allBelow}
 
 -- ---- two tests
 
@@ -58,15 +58,15 @@ when-test n m a b h = go (ℕ-discrete n m)
 
 -- ---- a range
 
-pub record Within (n most : ℕ) : Type 0 where
+pub record OneTo (n most : ℕ) : Type 0 where
   pub some : 1 ≤ n
   pub fits : n ≤ most
 
-pub within-fact : (n most : ℕ) → isWithin n most ≡ true → Within n most
-within-fact n most h = let p = and-fact (leb 1 n) (leb n most) h in record { some = leb-true 1 n (p .0); fits = leb-true n most (p .1) }
+pub one-to-fact : (n most : ℕ) → isOneTo n most ≡ true → OneTo n most
+one-to-fact n most h = let p = and-fact (leb 1 n) (leb n most) h in record { some = leb-true 1 n (p .0); fits = leb-true n most (p .1) }
 
-pub within-test : (n most : ℕ) → Within n most → isWithin n most ≡ true
-within-test n most w = and-test (leb 1 n) (leb n most) (le-leb 1 n (w .some)) (le-leb n most (w .fits))
+pub one-to-test : (n most : ℕ) → OneTo n most → isOneTo n most ≡ true
+one-to-test n most w = and-test (leb 1 n) (leb n most) (le-leb 1 n (w .some)) (le-leb n most (w .fits))
 
 -- ---- a list of tests
 
@@ -75,24 +75,24 @@ abbrev pub AllHold : List Bool → Type 0
 AllHold [] = Unit {0}
 AllHold (b ∷ bs) = (b ≡ true) × AllHold bs
 
-all-after-fact : (held : Bool) (bs : List Bool) → allAfter held bs ≡ true → (held ≡ true) × AllHold bs
-unfolding allAfter
-all-after-fact held [] h = (h, tt)
-all-after-fact held (b ∷ bs) h =
-    let r = all-after-fact (held && b) bs h in
+and-all-fact : (held : Bool) (bs : List Bool) → andAll held bs ≡ true → (held ≡ true) × AllHold bs
+unfolding andAll
+and-all-fact held [] h = (h, tt)
+and-all-fact held (b ∷ bs) h =
+    let r = and-all-fact (held && b) bs h in
     let p = and-fact held b (r .0) in
     (p .0, (p .1, r .1))
 
-all-after-test : (held : Bool) (bs : List Bool) → held ≡ true → AllHold bs → allAfter held bs ≡ true
-unfolding allAfter
-all-after-test held [] e h = e
-all-after-test held (b ∷ bs) e h = all-after-test (held && b) bs (and-test held b e (h .0)) (h .1)
+and-all-test : (held : Bool) (bs : List Bool) → held ≡ true → AllHold bs → andAll held bs ≡ true
+unfolding andAll
+and-all-test held [] e h = e
+and-all-test held (b ∷ bs) e h = and-all-test (held && b) bs (and-test held b e (h .0)) (h .1)
 
 pub all-fact : (bs : List Bool) → all bs ≡ true → AllHold bs
-all-fact bs h = all-after-fact true bs h .1
+all-fact bs h = and-all-fact true bs h .1
 
 pub all-test : (bs : List Bool) → AllHold bs → all bs ≡ true
-all-test bs h = all-after-test true bs refl h
+all-test bs h = and-all-test true bs refl h
 
 -- ---- every number below another
 

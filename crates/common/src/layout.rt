@@ -1,7 +1,7 @@
 // How a partition is divided.
 ghost use mathlib.Core.Path.{_≡_};
 ghost use Rattle.common.specs.Layout.{layoutSize, layoutSound};
-use crate::ranges::is_within;
+use crate::ranges::is_one_to;
 
 // The window first, then the input buffer, then the output buffer (document 01's strips), without gaps: how many bytes each has.
 pub struct Layout {
@@ -27,8 +27,8 @@ impl Layout {
     pub fn is_sound(self) -> bool
         ensures { λ r. ⌜ r ≡ layoutSound self ⌝ }
     {
-        is_within(self.window as usize, Layout::MAX_WINDOW as usize)
-            & is_within(self.input as usize, Layout::MAX_CAPACITY as usize)
-            & is_within(self.output as usize, Layout::MAX_CAPACITY as usize)
+        is_one_to(self.window as usize, Layout::MAX_WINDOW as usize)
+            & is_one_to(self.input as usize, Layout::MAX_CAPACITY as usize)
+            & is_one_to(self.output as usize, Layout::MAX_CAPACITY as usize)
     }
 }

@@ -6,4 +6,4 @@ mod ranges;
 pub use layout::Layout;
 pub use places::Address;
 pub use places::Location;
-pub use ranges::is_within;
+pub use ranges::is_one_to;

@@ -69,14 +69,14 @@ byte-law b k l p false h =
     let y : length (take (b .«input_end») l) ≤ b .«input_start» + k .read = omega arith in
     List·getD-eq-default (take (b .«input_end») l) 0 {n = b .«input_start» + k .read} y ∙ sym (List·getD-eq-default (take (b .«output_start» - b .«input_start») (drop (b .«input_start») l)) 0 {n = k .read} x)
 
-full-law : (b : Bounds) (k : Positions) (l : List ℕ) → BoundsHold b (length l) → (t : Bool) → ltb (b .«output_start» + k .written) (b .«output_end») ≡ t → leb (b .«output_end») (b .«output_start» + k .written) ≡ leb (length (take (b .end - b .«output_start») (drop (b .«output_start») l))) (k .written)
-full-law b k l p true h =
+output-full-law : (b : Bounds) (k : Positions) (l : List ℕ) → BoundsHold b (length l) → (t : Bool) → ltb (b .«output_start» + k .written) (b .«output_end») ≡ t → leb (b .«output_end») (b .«output_start» + k .written) ≡ leb (length (take (b .end - b .«output_start») (drop (b .«output_start») l))) (k .written)
+output-full-law b k l p true h =
     let g : b .«output_start» + k .written < b .«output_end» = ltb-true _ _ h in
     let d = p .output-end in
     let e : length (take (b .end - b .«output_start») (drop (b .«output_start») l)) ≡ min (b .end - b .«output_start») (length l - b .«output_start») = cut-length (b .end - b .«output_start») (b .«output_start») l in
     let x : k .written < length (take (b .end - b .«output_start») (drop (b .«output_start») l)) = omega arith in
     lt-leb _ _ g ∙ sym (lt-leb _ _ x)
-full-law b k l p false h =
+output-full-law b k l p false h =
     let g : b .«output_end» ≤ b .«output_start» + k .written = ltb-false _ _ h in
     let d = p .output-end in
     let f = p .end in
@@ -86,7 +86,7 @@ full-law b k l p false h =
 
 ports-law : (given : State) (b : Bounds) (c : Cpu) (s : ℕ) (k : Positions) (l : List ℕ) → BoundsHold b (length l) → portsOfView (portViewOf b k) (take (b .«input_end») l) ≡ portsOf (machineByBounds given b c s k l)
 unfolding portsOfView portViewOf machineByBounds
-ports-law given b c s k l p = rw (byte-law b k l p _ refl, full-law b k l p _ refl)
+ports-law given b c s k l p = rw (byte-law b k l p _ refl, output-full-law b k l p _ refl)
 
 -- an effect on the bytes is the machine's
 apply-store : (given : State) (b : Bounds) (c : Cpu) (s : ℕ) (k : Positions) (l : List ℕ) (a v : ℕ) → BoundsHold b (length l) → (t : Bool) → ltb a (b .«window_end») ≡ t → (m : PartitionAfter) → m ≡ applyEffectOf (Store a v) b k l → machineByBounds given b c s (m .positions) (m .bytes) ≡ withEffect (effectOf (Store a v)) (machineByBounds given b c s k l)
@@ -132,7 +132,7 @@ output-has-room b k l p f true h = h
 output-has-room b k l p f false h =
     let i : b .«output_end» ≤ b .«output_start» + k .written = ltb-false _ _ h in
     let g : leb (b .«output_end») (b .«output_start» + k .written) ≡ true = le-leb _ _ i in
-    let x : true ≡ false = sym g ∙ full-law b k l p false h ∙ f in
+    let x : true ≡ false = sym g ∙ output-full-law b k l p false h ∙ f in
     let z : _≡_ {A = ℕ} 0 1 = cc in
     absurd (omega arith)
 
@@ -212,9 +212,9 @@ beyond-kept (Put v) b k l n p = beyond-put v b k l n p _ refl
 pub beyond-law : (x : PackedEffect) (b : Bounds) (k : Positions) (l : List ℕ) (n : ℕ) → BoundsHold b n → (m : PartitionAfter) → m ≡ applyEffectOf x b k l → drop (b .end) (m .bytes) ≡ drop (b .end) l
 beyond-law x b k l n p m e = rw (e) (beyond-kept x b k l n p)
 
-pub end-law : (w i o f n : ℕ) (b : Bounds) → b ≡ boundsOf w i o f n → b .end ≡ w + i + o
+pub bounds-end-law : (w i o f n : ℕ) (b : Bounds) → b ≡ boundsOf w i o f n → b .end ≡ w + i + o
 unfolding boundsOf
-end-law w i o f n b e = ap (λ (x : Bounds). x .end) e
+bounds-end-law w i o f n b e = ap (λ (x : Bounds). x .end) e
 
 -- one iteration of the loop is one step of the machine
 packed-after-step : (given : State) (b : Bounds) (c : Cpu) (s : ℕ) (k : Positions) (l : List ℕ) (w : PackedStep) → withEffect (effectOf (w .effect)) (machineByBounds given b (cpuOf (w .cpu)) (w .status) k l) ≡ afterStep (stepResultOf w) (machineByBounds given b c s k l)
@@ -248,10 +248,10 @@ iteration-steps given b m s k l q e w g n v h =
     ∙ sym (step-runs (machineByBounds given b (cpuOf m) s k l) (status-at given b (cpuOf m) s k l ∙ e))
 
 -- the machine by its bounds is the machine by its layout
-pub view-law : (z : Layout) (given s : State) (b : Bounds) (n : ℕ) (k : Positions) (l : List ℕ) → b ≡ boundsOf (z .window) (z .input) (z .output) (given .filled) n
+pub machine-by-bounds-law : (z : Layout) (given s : State) (b : Bounds) (n : ℕ) (k : Positions) (l : List ℕ) → b ≡ boundsOf (z .window) (z .input) (z .output) (given .filled) n
     → s ≡ withWritten (k .written) (withRead (k .read) (withStatus (s .status) (withCpu (s .cpu) given))) → machineByBounds given b (s .cpu) (s .status) k l ≡ machineOf z s l
 unfolding boundsOf machineByBounds
-view-law z given s b n k l e h =
+machine-by-bounds-law z given s b n k l e h =
     let x : z .window + z .input - z .window ≡ z .input = omega arith in
     let y : z .window + z .input + z .output - (z .window + z .input) ≡ z .output = omega arith in
     rw (e, x, y) (ap (λ (t : State). machineOf z t l) (sym h))

@@ -9,8 +9,8 @@ use Rattle.common.specs.Choice.{if_then_else_}
 use Rattle.common.specs.declared.places.Address.{Address}
 use Rattle.cpu.specs.declared.address.Fetched.{Fetched}
 use Rattle.cpu.specs.declared.address.Fetched.the-variants.{Byte, NoByte}
-use Rattle.cpu.specs.declared.address.Located.{Located}
-use Rattle.cpu.specs.declared.address.Located.the-variants.{At, Outside}
+use Rattle.cpu.specs.declared.address.Resolved.{Resolved}
+use Rattle.cpu.specs.declared.address.Resolved.the-variants.{At, Outside}
 
 -- k further, within the page
 abbrev pub addInPage : Address → ℕ → Address
@@ -29,23 +29,23 @@ unfoldable pub ifFetched : {A : Type 0} → Fetched → A → (ℕ → A) → A
 ifFetched (Byte b) stop go = go b
 ifFetched NoByte stop go = stop
 
-unfoldable pub ifLocated : {A : Type 0} → Located → A → (Address → A) → A
-ifLocated (At a) stop go = go a
-ifLocated Outside stop go = stop
+unfoldable pub ifResolved : {A : Type 0} → Resolved → A → (Address → A) → A
+ifResolved (At a) stop go = go a
+ifResolved Outside stop go = stop
 
 -- fifteen bits of two bytes, high first: the top bit is ignored
 abbrev pub addressOf : ℕ → ℕ → Address
 addressOf high low = record { 0 = (high * 256 + low) % 32768 }
 
 -- a pointer is two bytes, the second within the first one's page
-unfoldable pub pointerOf : List ℕ → Address → Located
+unfoldable pub pointerOf : List ℕ → Address → Resolved
 pointerOf window a =
     ifFetched (fetchOf window a) Outside (λ high.
     ifFetched (fetchOf window (addInPage a 1)) Outside (λ low.
     At (addressOf high low)))
 
 -- the address itself, or where the pointer there leads if the indirect bit is 1
-unfoldable pub resolveOf : List ℕ → ℕ → Address → Located
+unfoldable pub resolveOf : List ℕ → ℕ → Address → Resolved
 resolveOf window indirect a = if eqb indirect 0 then At a else pointerOf window a
 
 -- the low seven bits of a relative byte as a signed displacement, -64 to 63

@@ -20,8 +20,8 @@ abbrev pub withCC : ℕ → ℕ → ℕ
 withCC psl cc = cc * 64 + psl % 64
 
 -- PSL with another CC, IDC, OVF and C; RS, WC and COM left
-abbrev pub withFlags : ℕ → ℕ → ℕ → ℕ → ℕ → ℕ
-withFlags psl cc idc ovf c = cc * 64 + idc * 32 + psl / 8 % 4 * 8 + ovf * 4 + bitCOM psl * 2 + c
+abbrev pub withArithmeticBits : ℕ → ℕ → ℕ → ℕ → ℕ → ℕ
+withArithmeticBits psl cc idc ovf c = cc * 64 + idc * 32 + psl / 8 % 4 * 8 + ovf * 4 + bitCOM psl * 2 + c
 
 -- a sum of eight bits with a carry in of 0 or 1: the byte, the carry out of bit 7, the carry out of bit 3
 abbrev pub sumOf : ℕ → ℕ → ℕ → ℕ
@@ -49,7 +49,7 @@ unfoldable pub sumResultOf : ℕ → ℕ → ℕ → ℕ → AluResult
 sumResultOf psl a b k =
     record {
       value = sumOf a b k;
-      psl = withFlags psl (conditionCodeOf (sumOf a b k)) (digitCarryOf a b k) (overflowOf a b k) (carryOf a b k);
+      psl = withArithmeticBits psl (conditionCodeOf (sumOf a b k)) (digitCarryOf a b k) (overflowOf a b k) (carryOf a b k);
     }
 
 -- the carry in: C if WC is 1, else the one given
@@ -76,14 +76,14 @@ unfoldable pub compareResultOf : ℕ → ℕ → ℕ → AluResult
 compareResultOf psl a b = record { value = a; psl = withCC psl (compareCCOf (bitCOM psl) a b) }
 
 -- the seven operations on a register a and an operand b. A subtraction adds the inverted operand, with carry in 1 unless WC says C
-unfoldable pub operateOf : Operation → ℕ → ℕ → ℕ → AluResult
-operateOf Lod psl a b = loadResultOf psl b
-operateOf Eor psl a b = loadResultOf psl (bitXor a b)
-operateOf And psl a b = loadResultOf psl (bitAnd a b)
-operateOf Ior psl a b = loadResultOf psl (bitOr a b)
-operateOf Add psl a b = sumResultOf psl a b (carryInOf psl 0)
-operateOf Sub psl a b = sumResultOf psl a (255 - b) (carryInOf psl 1)
-operateOf Com psl a b = compareResultOf psl a b
+unfoldable pub operationResultOf : Operation → ℕ → ℕ → ℕ → AluResult
+operationResultOf Lod psl a b = loadResultOf psl b
+operationResultOf Eor psl a b = loadResultOf psl (bitXor a b)
+operationResultOf And psl a b = loadResultOf psl (bitAnd a b)
+operationResultOf Ior psl a b = loadResultOf psl (bitOr a b)
+operationResultOf Add psl a b = sumResultOf psl a b (carryInOf psl 0)
+operationResultOf Sub psl a b = sumResultOf psl a (255 - b) (carryInOf psl 1)
+operationResultOf Com psl a b = compareResultOf psl a b
 
 -- CC of a test under a mask: 0 if all bits of the mask are one in the value, else 2
 unfoldable pub testCCOf : ℕ → ℕ → ℕ
@@ -91,7 +91,7 @@ testCCOf v mask = if eqb (bitAnd v mask) mask then 0 else 2
 
 -- a rotate through C: IDC takes bit 5 of the result, and OVF is 1 exactly if bit 7 changed
 unfoldable pub rotateResultOf : ℕ → ℕ → ℕ → ℕ → AluResult
-rotateResultOf psl a v c = record { value = v; psl = withFlags psl (conditionCodeOf v) (v / 32 % 2) ((a / 128 + v / 128) % 2) c }
+rotateResultOf psl a v c = record { value = v; psl = withArithmeticBits psl (conditionCodeOf v) (v / 32 % 2) ((a / 128 + v / 128) % 2) c }
 
 -- RRL and RRR: eight bits if WC is 0, with C, IDC and OVF left; nine through C if it is 1
 unfoldable pub rotateLeftOf : ℕ → ℕ → AluResult

@@ -4,7 +4,7 @@ use mathlib.Core.Bool.{Bool, true, false, not}
 use mathlib.Core.List.{List}
 use Prim.Native.Nat.{ℕ, _+_, _/_, _%_}
 use lib.Dec.{eqb}
-use Rattle.cpu.specs.Address.{addWrapping, fetchOf, ifFetched, ifLocated, addressOf, resolveOf, relativeOf}
+use Rattle.cpu.specs.Address.{addWrapping, fetchOf, ifFetched, ifResolved, addressOf, resolveOf, relativeOf}
 use Rattle.common.specs.Choice.{if_then_else_}
 use Rattle.cpu.specs.Result.{StepResult, runningOf, stoppedOf, addressAfter, advancedOf}
 use Rattle.cpu.specs.Cpu.{fieldCC, withoutII, pslOf, psuOf, registerOf, withRegister, withCounter, withPsu, callOf, returnFromCallOf}
@@ -58,7 +58,7 @@ isCallOf Bst = true
 isCallOf Bsf = true
 isCallOf Bsn = true
 
--- to an address; a call stores the address of the next instruction
+-- the counter goes to an address; a call stores the address of the next instruction
 unfoldable pub jumpOf : Bool → Cpu → Address → Address → StepResult
 jumpOf calls cpu a next = if calls then runningOf (withCounter (callOf cpu next) a) else runningOf (withCounter cpu a)
 
@@ -66,7 +66,7 @@ jumpOf calls cpu a next = if calls then runningOf (withCounter (callOf cpu next)
 unfoldable pub branchIfTakenOf : BranchKind → Cpu → Cpu → List ℕ → ℕ → ℕ → Address → Address → StepResult
 branchIfTakenOf kind cpu counted window r indirect a next =
     if isTakenOf kind counted r
-    then ifLocated (resolveOf window indirect a) (stoppedOf cpu 6) (λ t. jumpOf (isCallOf kind) counted t next)
+    then ifResolved (resolveOf window indirect a) (stoppedOf cpu 6) (λ t. jumpOf (isCallOf kind) counted t next)
     else runningOf (withCounter counted next)
 
 -- what the own bytes of a branch of k bytes say: the indirect bit, the address, and the address of the next instruction.
@@ -95,7 +95,7 @@ branchOf mode kind cpu k window r =
 unfoldable pub zeroBranchOf : Bool → Cpu → ℕ → List ℕ → StepResult
 zeroBranchOf calls cpu k window =
     ifFetched (fetchOf window (addressAfter cpu 1)) (stoppedOf cpu 6) (λ second.
-    ifLocated (resolveOf window (second / 128) (relativeOf (record { 0 = 0 }) second)) (stoppedOf cpu 6) (λ t.
+    ifResolved (resolveOf window (second / 128) (relativeOf (record { 0 = 0 }) second)) (stoppedOf cpu 6) (λ t.
     jumpOf calls cpu t (addressAfter cpu k)))
 
 -- BXA and BSXA: R3 is added, modulo 32,768
@@ -103,7 +103,7 @@ unfoldable pub indexedBranchOf : Bool → Cpu → ℕ → List ℕ → StepResul
 indexedBranchOf calls cpu k window =
     ifFetched (fetchOf window (addressAfter cpu 1)) (stoppedOf cpu 6) (λ second.
     ifFetched (fetchOf window (addressAfter cpu 2)) (stoppedOf cpu 6) (λ third.
-    ifLocated (resolveOf window (second / 128) (addressOf second third)) (stoppedOf cpu 6) (λ t.
+    ifResolved (resolveOf window (second / 128) (addressOf second third)) (stoppedOf cpu 6) (λ t.
     jumpOf calls cpu (addWrapping t (registerOf cpu 3)) (addressAfter cpu k))))
 
 -- RETC, and RETE, which clears II if it is taken

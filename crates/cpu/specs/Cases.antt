@@ -3,7 +3,7 @@ use mathlib.Core.List.{List, [], _∷_}
 use mathlib.Core.Path.{_≡_, refl}
 use Prim.Native.Nat.{ℕ}
 use Rattle.cpu.specs.Machine.{Machine, machineStep}
-use Rattle.cpu.specs.State.{restingState, withStatus}
+use Rattle.cpu.specs.State.{emptyState, withStatus}
 use Rattle.cpu.specs.Cpu.{freshCpu, withRegister, withPsu, withPsl}
 use Rattle.cpu.specs.declared.cpu.Cpu.{Cpu}
 use Rattle.cpu.specs.StepDefinitions.{step-definitions}
@@ -15,7 +15,7 @@ cpuWith counter r0 psu psl = withPsl (withPsu (withRegister (freshCpu (record { 
 -- a machine with that window, nothing to read and room for one byte
 abbrev pub machineWith : ℕ → Cpu → List ℕ → Machine
 machineWith status cpu window =
-    record { state = withStatus status (restingState cpu); window = window; input = 0 ∷ []; output = 0 ∷ [] }
+    record { state = withStatus status (emptyState cpu); window = window; input = 0 ∷ []; output = 0 ∷ [] }
 
 -- one step of a running machine leaves it running, with the window as it was
 abbrev StepsTo : Cpu → List ℕ → Cpu → Type 0

@@ -2,13 +2,13 @@
 use mathlib.Core.Bool.{Bool, true, false}
 use mathlib.Core.Path.{_≡_, refl}
 use Prim.Native.Nat.{ℕ}
-use Rattle.cpu.specs.Address.{ifFetched, ifLocated}
+use Rattle.cpu.specs.Address.{ifFetched, ifResolved}
 use Rattle.common.specs.Choice.{if_then_else_}
 use Rattle.common.specs.declared.places.Address.{Address}
 use Rattle.cpu.specs.declared.address.Fetched.{Fetched}
 use Rattle.cpu.specs.declared.address.Fetched.the-variants.{Byte, NoByte}
-use Rattle.cpu.specs.declared.address.Located.{Located}
-use Rattle.cpu.specs.declared.address.Located.the-variants.{At, Outside}
+use Rattle.cpu.specs.declared.address.Resolved.{Resolved}
+use Rattle.cpu.specs.declared.address.Resolved.the-variants.{At, Outside}
 
 pub if-all {ℓ} : {A : Type 0} (P : A → Type ℓ) {t : Bool} {a b : A} → (t ≡ true → P a) → (t ≡ false → P b) → P (if t then a else b)
 unfolding if_then_else_
@@ -20,7 +20,7 @@ unfolding ifFetched
 byte-all P {f = Byte b} h k = k b refl
 byte-all P {f = NoByte} h k = h refl
 
-pub address-all {ℓ} : {A : Type 0} (P : A → Type ℓ) {f : Located} {s : A} {g : Address → A} → (f ≡ Outside → P s) → ((a : Address) → f ≡ At a → P (g a)) → P (ifLocated f s g)
-unfolding ifLocated
+pub address-all {ℓ} : {A : Type 0} (P : A → Type ℓ) {f : Resolved} {s : A} {g : Address → A} → (f ≡ Outside → P s) → ((a : Address) → f ≡ At a → P (g a)) → P (ifResolved f s g)
+unfolding ifResolved
 address-all P {f = At a} h k = k a refl
 address-all P {f = Outside} h k = h refl

@@ -41,11 +41,11 @@ withoutII psu = psu / 64 * 64 + psu % 32
 abbrev pub storedPsu : ℕ → ℕ
 storedPsu v = v / 32 % 4 * 32 + v % 8
 
--- a state before its first instruction: the counter there, registers, status words and return addresses zero
+-- a Cpu before its first instruction: the counter there, registers, status words and return addresses zero
 unfoldable pub freshCpu : Address → Cpu
 freshCpu start = record { counter = start .0; registers = replicate 7 0; psu = 0; psl = 0; returns = replicate 8 0 }
 
--- the parts of the state, by name
+-- the parts of a Cpu, by name
 unfoldable pub counterOf : Cpu → Address
 counterOf cpu = record { 0 = cpu .counter }
 
@@ -65,7 +65,7 @@ registerOf cpu r = getD (cpu .registers) (registerIndex (bitRS (pslOf cpu)) r) 0
 unfoldable pub returnOf : Cpu → ℕ → Address
 returnOf cpu sp = record { 0 = getD (cpu .returns) sp 0 }
 
--- the state with one part changed
+-- a Cpu with one part changed
 unfoldable pub withCounter : Cpu → Address → Cpu
 withCounter cpu a = record { counter = a .0; registers = cpu .registers; psu = cpu .psu; psl = cpu .psl; returns = cpu .returns }
 

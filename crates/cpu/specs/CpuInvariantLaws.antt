@@ -1,4 +1,4 @@
--- Laws that the checker has shown: two invariants. A step keeps a sound state sound, and as many registers and return addresses as there are.
+-- Laws that the checker has shown: two invariants. A step keeps a sound Cpu sound, and as many registers and return addresses as there are.
 use mathlib.Core.List.{List, [], _∷_}
 use mathlib.Core.Path.{_≡_, _∙_}
 use Prim.Native.Nat.{ℕ, zero, suc, _+_, _*_, _/_, _%_, _<_}
@@ -62,7 +62,7 @@ pub keeps-sound : {cpu next : Cpu} → KeepsInvariants cpu next → CpuSound cpu
 unfolding soundInvariant
 keeps-sound k s = k soundInvariant s
 
--- what the arrays of a state are as lists: seven registers and eight return addresses
+-- what the arrays of a Cpu are as lists: seven registers and eight return addresses
 pub record CpuShaped (cpu : Cpu) : Type 0 where
   pub registers : length (cpu .registers) ≡ 7
   pub returns : length (cpu .returns) ≡ 8

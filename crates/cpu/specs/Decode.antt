@@ -13,17 +13,17 @@ use Rattle.cpu.specs.declared.decode.BranchMode.{BranchMode}
 use Rattle.cpu.specs.declared.decode.BranchMode.the-variants as branch
 use Rattle.cpu.specs.declared.decode.BranchKind.the-variants.{Bct, Bcf, Brn, Bir, Bdr, Bst, Bsf, Bsn}
 use Rattle.cpu.specs.declared.decode.Instruction.{Instruction}
-use Rattle.cpu.specs.declared.decode.Instruction.the-variants.{Unknown, UnusedPort, ExtendedPort, Operate, Strz, Nop, Halt, Spsu, Spsl, Lpsu, Lpsl, Cpsu, Cpsl, Ppsu, Ppsl, Tpsu, Tpsl, Tmi, Dar, Rrr, Rrl, Redd, Wrtd, Retc, Rete, Branch, Zbrr, Zbsr, Bxa, Bsxa}
+use Rattle.cpu.specs.declared.decode.Instruction.the-variants.{Unknown, ControlPort, ExtendedPort, Operate, Strz, Nop, Halt, Spsu, Spsl, Lpsu, Lpsl, Cpsu, Cpsl, Ppsu, Ppsl, Tpsu, Tpsl, Tmi, Dar, Rrr, Rrl, Redd, Wrtd, Retc, Rete, Branch, Zbrr, Zbsr, Bxa, Bsxa}
 
 -- all four codes of a class alike
-abbrev pub each : Instruction → ℕ → Instruction
-each a r = a
+abbrev pub allFour : Instruction → ℕ → Instruction
+allFour a r = a
 
 -- an instruction for each of the four
 unfoldable pub eachOfFour : Instruction → Instruction → Instruction → Instruction → ℕ → Instruction
 eachOfFour a b c d r = if eqb r 0 then a else (if eqb r 1 then b else (if eqb r 2 then c else d))
 
--- the first apart from the other three, and the last
+-- one instruction for the first code and one for the other three; one for the first three and one for the last
 unfoldable pub firstAndRest : Instruction → Instruction → ℕ → Instruction
 firstAndRest a others r = if eqb r 0 then a else others
 
@@ -34,74 +34,74 @@ restAndLast others d r = if eqb r 3 then d else others
 abbrev pub classes : List (ℕ → Instruction)
 classes =
     firstAndRest Unknown (Operate Register (Read Lod)) ∷  -- 00 unknown, 01 LODZ
-    each (Operate Immediate (Read Lod)) ∷  -- 04 LODI
-    each (Operate Relative (Read Lod)) ∷  -- 08 LODR
-    each (Operate Absolute (Read Lod)) ∷  -- 0C LODA
+    allFour (Operate Immediate (Read Lod)) ∷  -- 04 LODI
+    allFour (Operate Relative (Read Lod)) ∷  -- 08 LODR
+    allFour (Operate Absolute (Read Lod)) ∷  -- 0C LODA
     eachOfFour Unknown Unknown Spsu Spsl ∷  -- 10, 11 unknown, 12 SPSU, 13 SPSL
-    each Retc ∷  -- 14 RETC
-    each (Branch branch.Relative Bct) ∷  -- 18 BCTR
-    each (Branch branch.Absolute Bct) ∷  -- 1C BCTA
-    each (Operate Register (Read Eor)) ∷  -- 20 EORZ
-    each (Operate Immediate (Read Eor)) ∷  -- 24 EORI
-    each (Operate Relative (Read Eor)) ∷  -- 28 EORR
-    each (Operate Absolute (Read Eor)) ∷  -- 2C EORA
-    each UnusedPort ∷  -- 30 REDC
-    each Rete ∷  -- 34 RETE
-    each (Branch branch.Relative Bst) ∷  -- 38 BSTR
-    each (Branch branch.Absolute Bst) ∷  -- 3C BSTA
+    allFour Retc ∷  -- 14 RETC
+    allFour (Branch branch.Relative Bct) ∷  -- 18 BCTR
+    allFour (Branch branch.Absolute Bct) ∷  -- 1C BCTA
+    allFour (Operate Register (Read Eor)) ∷  -- 20 EORZ
+    allFour (Operate Immediate (Read Eor)) ∷  -- 24 EORI
+    allFour (Operate Relative (Read Eor)) ∷  -- 28 EORR
+    allFour (Operate Absolute (Read Eor)) ∷  -- 2C EORA
+    allFour ControlPort ∷  -- 30 REDC
+    allFour Rete ∷  -- 34 RETE
+    allFour (Branch branch.Relative Bst) ∷  -- 38 BSTR
+    allFour (Branch branch.Absolute Bst) ∷  -- 3C BSTA
     firstAndRest Halt (Operate Register (Read And)) ∷  -- 40 HALT, 41 ANDZ
-    each (Operate Immediate (Read And)) ∷  -- 44 ANDI
-    each (Operate Relative (Read And)) ∷  -- 48 ANDR
-    each (Operate Absolute (Read And)) ∷  -- 4C ANDA
-    each Rrr ∷  -- 50 RRR
-    each ExtendedPort ∷  -- 54 REDE
-    each (Branch branch.Relative Brn) ∷  -- 58 BRNR
-    each (Branch branch.Absolute Brn) ∷  -- 5C BRNA
-    each (Operate Register (Read Ior)) ∷  -- 60 IORZ
-    each (Operate Immediate (Read Ior)) ∷  -- 64 IORI
-    each (Operate Relative (Read Ior)) ∷  -- 68 IORR
-    each (Operate Absolute (Read Ior)) ∷  -- 6C IORA
-    each Redd ∷  -- 70 REDD
+    allFour (Operate Immediate (Read And)) ∷  -- 44 ANDI
+    allFour (Operate Relative (Read And)) ∷  -- 48 ANDR
+    allFour (Operate Absolute (Read And)) ∷  -- 4C ANDA
+    allFour Rrr ∷  -- 50 RRR
+    allFour ExtendedPort ∷  -- 54 REDE
+    allFour (Branch branch.Relative Brn) ∷  -- 58 BRNR
+    allFour (Branch branch.Absolute Brn) ∷  -- 5C BRNA
+    allFour (Operate Register (Read Ior)) ∷  -- 60 IORZ
+    allFour (Operate Immediate (Read Ior)) ∷  -- 64 IORI
+    allFour (Operate Relative (Read Ior)) ∷  -- 68 IORR
+    allFour (Operate Absolute (Read Ior)) ∷  -- 6C IORA
+    allFour Redd ∷  -- 70 REDD
     eachOfFour Cpsu Cpsl Ppsu Ppsl ∷  -- 74 CPSU, 75 CPSL, 76 PPSU, 77 PPSL
-    each (Branch branch.Relative Bsn) ∷  -- 78 BSNR
-    each (Branch branch.Absolute Bsn) ∷  -- 7C BSNA
-    each (Operate Register (Read Add)) ∷  -- 80 ADDZ
-    each (Operate Immediate (Read Add)) ∷  -- 84 ADDI
-    each (Operate Relative (Read Add)) ∷  -- 88 ADDR
-    each (Operate Absolute (Read Add)) ∷  -- 8C ADDA
+    allFour (Branch branch.Relative Bsn) ∷  -- 78 BSNR
+    allFour (Branch branch.Absolute Bsn) ∷  -- 7C BSNA
+    allFour (Operate Register (Read Add)) ∷  -- 80 ADDZ
+    allFour (Operate Immediate (Read Add)) ∷  -- 84 ADDI
+    allFour (Operate Relative (Read Add)) ∷  -- 88 ADDR
+    allFour (Operate Absolute (Read Add)) ∷  -- 8C ADDA
     eachOfFour Unknown Unknown Lpsu Lpsl ∷  -- 90, 91 unknown, 92 LPSU, 93 LPSL
-    each Dar ∷  -- 94 DAR
+    allFour Dar ∷  -- 94 DAR
     restAndLast (Branch branch.Relative Bcf) Zbrr ∷  -- 98 BCFR, 9B ZBRR
     restAndLast (Branch branch.Absolute Bcf) Bxa ∷  -- 9C BCFA, 9F BXA
-    each (Operate Register (Read Sub)) ∷  -- A0 SUBZ
-    each (Operate Immediate (Read Sub)) ∷  -- A4 SUBI
-    each (Operate Relative (Read Sub)) ∷  -- A8 SUBR
-    each (Operate Absolute (Read Sub)) ∷  -- AC SUBA
-    each UnusedPort ∷  -- B0 WRTC
+    allFour (Operate Register (Read Sub)) ∷  -- A0 SUBZ
+    allFour (Operate Immediate (Read Sub)) ∷  -- A4 SUBI
+    allFour (Operate Relative (Read Sub)) ∷  -- A8 SUBR
+    allFour (Operate Absolute (Read Sub)) ∷  -- AC SUBA
+    allFour ControlPort ∷  -- B0 WRTC
     eachOfFour Tpsu Tpsl Unknown Unknown ∷  -- B4 TPSU, B5 TPSL, B6, B7 unknown
     restAndLast (Branch branch.Relative Bsf) Zbsr ∷  -- B8 BSFR, BB ZBSR
     restAndLast (Branch branch.Absolute Bsf) Bsxa ∷  -- BC BSFA, BF BSXA
     firstAndRest Nop Strz ∷  -- C0 NOP, C1 STRZ
-    each Unknown ∷  -- C4 to C7 unknown
-    each (Operate Relative Write) ∷  -- C8 STRR
-    each (Operate Absolute Write) ∷  -- CC STRA
-    each Rrl ∷  -- D0 RRL
-    each ExtendedPort ∷  -- D4 WRTE
-    each (Branch branch.Relative Bir) ∷  -- D8 BIRR
-    each (Branch branch.Absolute Bir) ∷  -- DC BIRA
-    each (Operate Register (Read Com)) ∷  -- E0 COMZ
-    each (Operate Immediate (Read Com)) ∷  -- E4 COMI
-    each (Operate Relative (Read Com)) ∷  -- E8 COMR
-    each (Operate Absolute (Read Com)) ∷  -- EC COMA
-    each Wrtd ∷  -- F0 WRTD
-    each Tmi ∷  -- F4 TMI
-    each (Branch branch.Relative Bdr) ∷  -- F8 BDRR
-    each (Branch branch.Absolute Bdr) ∷  -- FC BDRA
+    allFour Unknown ∷  -- C4 to C7 unknown
+    allFour (Operate Relative Write) ∷  -- C8 STRR
+    allFour (Operate Absolute Write) ∷  -- CC STRA
+    allFour Rrl ∷  -- D0 RRL
+    allFour ExtendedPort ∷  -- D4 WRTE
+    allFour (Branch branch.Relative Bir) ∷  -- D8 BIRR
+    allFour (Branch branch.Absolute Bir) ∷  -- DC BIRA
+    allFour (Operate Register (Read Com)) ∷  -- E0 COMZ
+    allFour (Operate Immediate (Read Com)) ∷  -- E4 COMI
+    allFour (Operate Relative (Read Com)) ∷  -- E8 COMR
+    allFour (Operate Absolute (Read Com)) ∷  -- EC COMA
+    allFour Wrtd ∷  -- F0 WRTD
+    allFour Tmi ∷  -- F4 TMI
+    allFour (Branch branch.Relative Bdr) ∷  -- F8 BDRR
+    allFour (Branch branch.Absolute Bdr) ∷  -- FC BDRA
     []
 
 -- the first six bits say the class
 unfoldable pub decodeOf : ℕ → Instruction
-decodeOf op = getD classes (op / 4) (each Unknown) (op % 4)
+decodeOf op = getD classes (op / 4) (allFour Unknown) (op % 4)
 
 -- how many bytes an instruction has: by the mode of its operand or of its branch
 abbrev pub modeLength : Mode → ℕ
@@ -110,14 +110,14 @@ modeLength Immediate = 2
 modeLength Relative = 2
 modeLength Absolute = 3
 
-abbrev pub branchLength : BranchMode → ℕ
-branchLength branch.Relative = 2
-branchLength branch.Absolute = 3
+abbrev pub branchModeLength : BranchMode → ℕ
+branchModeLength branch.Relative = 2
+branchModeLength branch.Absolute = 3
 
 -- the manual gives an unknown code no length: it counts as one byte
 abbrev pub instructionLength : Instruction → ℕ
 instructionLength Unknown = 1
-instructionLength UnusedPort = 1
+instructionLength ControlPort = 1
 instructionLength ExtendedPort = 2
 instructionLength (Operate mode access) = modeLength mode
 instructionLength Strz = 1
@@ -141,7 +141,7 @@ instructionLength Redd = 1
 instructionLength Wrtd = 1
 instructionLength Retc = 1
 instructionLength Rete = 1
-instructionLength (Branch mode kind) = branchLength mode
+instructionLength (Branch mode kind) = branchModeLength mode
 instructionLength Zbrr = 2
 instructionLength Zbsr = 2
 instructionLength Bxa = 3

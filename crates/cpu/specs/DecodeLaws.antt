@@ -1,36 +1,36 @@
 -- Laws that the checker has shown: an instruction has one to three bytes.
 use native.Mathlib.Omega.{arith}
-use Rattle.common.specs.TestLaws.{Within}
-use Rattle.cpu.specs.Decode.{modeLength, branchLength, instructionLength}
+use Rattle.common.specs.TestLaws.{OneTo}
+use Rattle.cpu.specs.Decode.{modeLength, branchModeLength, instructionLength}
 use Rattle.cpu.specs.declared.decode.Instruction.{Instruction}
-use Rattle.cpu.specs.declared.decode.Instruction.the-variants.{Unknown, UnusedPort, ExtendedPort, Operate, Strz, Nop, Halt, Spsu, Spsl, Lpsu, Lpsl, Cpsu, Cpsl, Ppsu, Ppsl, Tpsu, Tpsl, Tmi, Dar, Rrr, Rrl, Redd, Wrtd, Retc, Rete, Branch, Zbrr, Zbsr, Bxa, Bsxa}
+use Rattle.cpu.specs.declared.decode.Instruction.the-variants.{Unknown, ControlPort, ExtendedPort, Operate, Strz, Nop, Halt, Spsu, Spsl, Lpsu, Lpsl, Cpsu, Cpsl, Ppsu, Ppsl, Tpsu, Tpsl, Tmi, Dar, Rrr, Rrl, Redd, Wrtd, Retc, Rete, Branch, Zbrr, Zbsr, Bxa, Bsxa}
 use Rattle.cpu.specs.declared.decode.Mode.{Mode}
 use Rattle.cpu.specs.declared.decode.Mode.the-variants.{Register, Immediate, Relative, Absolute}
 use Rattle.cpu.specs.declared.decode.BranchMode.{BranchMode}
 use Rattle.cpu.specs.declared.decode.BranchMode.the-variants as branch
 
-one-byte : Within 1 3
+one-byte : OneTo 1 3
 one-byte = record { some = omega arith; fits = omega arith }
 
-two-bytes : Within 2 3
+two-bytes : OneTo 2 3
 two-bytes = record { some = omega arith; fits = omega arith }
 
-three-bytes : Within 3 3
+three-bytes : OneTo 3 3
 three-bytes = record { some = omega arith; fits = omega arith }
 
-mode-within : (mode : Mode) → Within (modeLength mode) 3
+mode-within : (mode : Mode) → OneTo (modeLength mode) 3
 mode-within Register = one-byte
 mode-within Immediate = two-bytes
 mode-within Relative = two-bytes
 mode-within Absolute = three-bytes
 
-branch-within : (mode : BranchMode) → Within (branchLength mode) 3
+branch-within : (mode : BranchMode) → OneTo (branchModeLength mode) 3
 branch-within branch.Relative = two-bytes
 branch-within branch.Absolute = three-bytes
 
-pub length-within : (i : Instruction) → Within (instructionLength i) 3
+pub length-within : (i : Instruction) → OneTo (instructionLength i) 3
 length-within Unknown = one-byte
-length-within UnusedPort = one-byte
+length-within ControlPort = one-byte
 length-within ExtendedPort = two-bytes
 length-within (Operate mode access) = mode-within mode
 length-within Strz = one-byte

@@ -13,13 +13,13 @@ use Rattle.cpu.specs.Result.{Ports, Nothing, StepResult, stepResult, run
 use Rattle.cpu.specs.Cpu.{storedPsu, counterOf, pslOf, psuOf, registerOf, withPsl, withPsu}
 use Rattle.cpu.specs.Psw.{psuWithSense, maskedOf, testedOf}
 use Rattle.cpu.specs.declared.decode.Instruction.{Instruction}
-use Rattle.cpu.specs.declared.decode.Instruction.the-variants.{Unknown, UnusedPort, ExtendedPort, Operate, Strz, Nop, Halt, Spsu, Spsl, Lpsu, Lpsl, Cpsu, Cpsl, Ppsu, Ppsl, Tpsu, Tpsl, Tmi, Dar, Rrr, Rrl, Redd, Wrtd, Retc, Rete, Branch, Zbrr, Zbsr, Bxa, Bsxa}
+use Rattle.cpu.specs.declared.decode.Instruction.the-variants.{Unknown, ControlPort, ExtendedPort, Operate, Strz, Nop, Halt, Spsu, Spsl, Lpsu, Lpsl, Cpsu, Cpsl, Ppsu, Ppsl, Tpsu, Tpsl, Tmi, Dar, Rrr, Rrl, Redd, Wrtd, Retc, Rete, Branch, Zbrr, Zbsr, Bxa, Bsxa}
 use Rattle.cpu.specs.declared.cpu.Cpu.{Cpu}
 
--- an instruction a line: the state, the instruction's length, the window, what the buffers offer, and the last two bits of its code
+-- an instruction a line: the Cpu, the instruction's length, the window, what the buffers offer, and the last two bits of its code
 unfoldable pub executeOf : Instruction → Cpu → ℕ → List ℕ → Ports → ℕ → StepResult
 executeOf Unknown cpu k w p r = stoppedOf cpu 5
-executeOf UnusedPort cpu k w p r = stoppedOf cpu 7
+executeOf ControlPort cpu k w p r = stoppedOf cpu 7
 executeOf ExtendedPort cpu k w p r = stoppedOf cpu 7
 executeOf (Operate mode access) cpu k w p r = operateOnOperandOf mode access cpu k w r
 executeOf Strz cpu k w p r = registerChangedOf cpu k r (loadResultOf (pslOf cpu) (registerOf cpu 0))

@@ -1,5 +1,5 @@
--- Laws that the checker has shown: what holds of a state, of its addresses and of PSU, and is kept by each of the changes of which
--- every instruction is made, is kept by what instructions do to the state.
+-- Laws that the checker has shown: what holds of a Cpu, of its addresses and of PSU, and is kept by each of the changes of which
+-- every instruction is made, is kept by what instructions do to the Cpu.
 use Prim.Native.Nat.{ℕ, _<_}
 use native.Mathlib.Omega.{arith}
 use lib.IntN.{ℤ, pos, negsuc}
@@ -15,13 +15,13 @@ use Rattle.cpu.specs.declared.decode.BranchKind.{BranchKind}
 use Rattle.cpu.specs.declared.decode.BranchKind.the-variants.{Bct, Bcf, Brn, Bir, Bdr, Bst, Bsf, Bsn}
 use Rattle.cpu.specs.declared.cpu.Cpu.{Cpu}
 
--- an invariant says something of a state, of the addresses that a machine comes to, and of the values of PSU.
+-- an invariant says something of a Cpu, of the addresses that a machine comes to, and of the values of PSU.
 -- A new one is an instance of this record, and no instruction is looked at again
 pub record Invariant : Type 1 where
   pub OfCpu : Cpu → Type 0
   pub OfAddress : Address → Type 0
   pub OfPsu : ℕ → Type 0
-  -- the parts of a state
+  -- the parts of a Cpu
   pub counter : (cpu : Cpu) → OfCpu cpu → OfAddress (counterOf cpu)
   pub return-address : (cpu : Cpu) (sp : ℕ) → OfCpu cpu → OfAddress (returnOf cpu sp)
   pub psu : (cpu : Cpu) → OfCpu cpu → OfPsu (psuOf cpu)
@@ -40,15 +40,15 @@ pub record Invariant : Type 1 where
   pub with-psl : (cpu : Cpu) (v : ℕ) → OfCpu cpu → OfCpu (withPsl cpu v)
   pub with-return : (cpu : Cpu) (sp : ℕ) (a : Address) → OfAddress a → OfCpu cpu → OfCpu (withReturn cpu sp a)
 
--- a state is changed into one of which every invariant holds that held of it
+-- a Cpu is changed into one of which every invariant holds that held of it
 abbrev pub KeepsInvariants : Cpu → Cpu → Type 1
 KeepsInvariants cpu next = (i : Invariant) → i .OfCpu cpu → i .OfCpu next
 
--- a state leads to an address: every invariant that holds of the one holds of the other
+-- a Cpu leads to an address: every invariant that holds of the one holds of the other
 abbrev pub LeadsTo : Cpu → Address → Type 1
 LeadsTo cpu a = (i : Invariant) → i .OfCpu cpu → i .OfAddress a
 
--- the addresses that a state leads to
+-- the addresses that a Cpu leads to
 pub lead-after : (cpu : Cpu) (k : ℕ) → LeadsTo cpu (addressAfter cpu k)
 lead-after cpu k i s = i .in-page _ k (i .counter cpu s)
 

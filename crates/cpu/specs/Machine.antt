@@ -46,7 +46,7 @@ portsOf m =
       full = leb (length (m .output)) (m .state .written);
     }
 
--- state and status after a step
+-- Cpu and status after a step
 abbrev pub withCpuAndStatus : StepResult → Machine → Machine
 withCpuAndStatus s m = withState (withStatus (s .status) (withCpu (s .cpu) (m .state))) m
 

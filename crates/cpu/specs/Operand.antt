@@ -2,20 +2,20 @@
 use mathlib.Core.List.{List}
 use Prim.Native.Nat.{ℕ, _+_, _*_, _/_, _%_}
 use lib.Dec.{eqb}
-use Rattle.cpu.specs.Address.{addInPage, addWrapping, fetchOf, ifFetched, ifLocated, pointerOf, resolveOf, relativeOf}
+use Rattle.cpu.specs.Address.{addInPage, addWrapping, fetchOf, ifFetched, ifResolved, pointerOf, resolveOf, relativeOf}
 use Rattle.common.specs.Choice.{if_then_else_}
 use Rattle.cpu.specs.Result.{StepResult, Store, stepResult, stoppedOf, addressAfter, advancedOf, operatedOf}
 use Rattle.cpu.specs.Cpu.{counterOf, registerOf, withRegister}
 use Rattle.common.specs.declared.places.Address.{Address}
-use Rattle.cpu.specs.declared.address.Located.{Located}
-use Rattle.cpu.specs.declared.address.Located.the-variants.{At, Outside}
+use Rattle.cpu.specs.declared.address.Resolved.{Resolved}
+use Rattle.cpu.specs.declared.address.Resolved.the-variants.{At, Outside}
 use Rattle.cpu.specs.declared.decode.Mode.{Mode}
 use Rattle.cpu.specs.declared.decode.Mode.the-variants.{Register, Immediate, Relative, Absolute}
 use Rattle.cpu.specs.declared.decode.Access.{Access}
 use Rattle.cpu.specs.declared.decode.Access.the-variants.{Read, Write}
 use Rattle.cpu.specs.declared.cpu.Cpu.{Cpu}
 
--- an operand: its byte, its address, the register that it is used with, and the state after the instruction's own bytes:
+-- an operand: its byte, its address, the register that it is used with, and the Cpu after the instruction's own bytes:
 -- the index stepped, the counter at the next instruction. An operand in a register or in the instruction has no address:
 -- 0 stands there, and no instruction uses it
 pub data Operand : Type 0 where
@@ -26,17 +26,17 @@ abbrev pub noAddress : Address
 noAddress = record { 0 = 0 }
 
 -- the index by the two control bits: none, one added first, one subtracted first, plain; modulo 256
-unfoldable pub indexOf : ℕ → ℕ → ℕ
-indexOf control v =
+unfoldable pub indexValueOf : ℕ → ℕ → ℕ
+indexValueOf control v =
     if eqb control 0 then 0
     else (if eqb control 1 then (v + 1) % 256
     else (if eqb control 2 then (v + 255) % 256 else v))
 
 -- the index is added within the page; after an indirect pointer it is added modulo 32,768
-unfoldable pub indexedAddressOf : List ℕ → ℕ → Address → ℕ → Located
+unfoldable pub indexedAddressOf : List ℕ → ℕ → Address → ℕ → Resolved
 indexedAddressOf window indirect a i =
     if eqb indirect 0 then At (addInPage a i)
-    else ifLocated (pointerOf window a) Outside (λ p. At (addWrapping p i))
+    else ifResolved (pointerOf window a) Outside (λ p. At (addWrapping p i))
 
 -- thirteen bits of the instruction in its own page
 abbrev pub dataAddressOf : Cpu → ℕ → ℕ → Address
@@ -46,7 +46,7 @@ dataAddressOf cpu high low = record { 0 = counterOf cpu .0 / 8192 * 8192 + (high
 unfoldable pub dataRegisterOf : ℕ → ℕ → ℕ
 dataRegisterOf control r = if eqb control 0 then r else 0
 
--- the index changes first, and only with the instruction
+-- the index register after its step; without indexing none is stepped
 unfoldable pub steppedIndexOf : Cpu → ℕ → ℕ → ℕ → Cpu
 steppedIndexOf cpu r control i = if eqb control 0 then cpu else withRegister cpu r i
 
@@ -63,7 +63,7 @@ immediateOperandOf cpu k window r =
 unfoldable pub relativeOperandOf : Cpu → ℕ → List ℕ → ℕ → Operand
 relativeOperandOf cpu k window r =
     ifFetched (fetchOf window (addressAfter cpu 1)) NoOperand (λ second.
-    ifLocated (resolveOf window (second / 128) (relativeOf (addressAfter cpu k) second)) NoOperand (λ a.
+    ifResolved (resolveOf window (second / 128) (relativeOf (addressAfter cpu k) second)) NoOperand (λ a.
     ifFetched (fetchOf window a) NoOperand (λ b.
     Found b a r (advancedOf cpu k))))
 
@@ -72,9 +72,9 @@ unfoldable pub absoluteOperandOf : Cpu → ℕ → List ℕ → ℕ → Operand
 absoluteOperandOf cpu k window r =
     ifFetched (fetchOf window (addressAfter cpu 1)) NoOperand (λ high.
     ifFetched (fetchOf window (addressAfter cpu 2)) NoOperand (λ low.
-    ifLocated (indexedAddressOf window (high / 128) (dataAddressOf cpu high low) (indexOf (high / 32 % 4) (registerOf cpu r))) NoOperand (λ a.
+    ifResolved (indexedAddressOf window (high / 128) (dataAddressOf cpu high low) (indexValueOf (high / 32 % 4) (registerOf cpu r))) NoOperand (λ a.
     ifFetched (fetchOf window a) NoOperand (λ b.
-    Found b a (dataRegisterOf (high / 32 % 4) r) (advancedOf (steppedIndexOf cpu r (high / 32 % 4) (indexOf (high / 32 % 4) (registerOf cpu r))) k)))))
+    Found b a (dataRegisterOf (high / 32 % 4) r) (advancedOf (steppedIndexOf cpu r (high / 32 % 4) (indexValueOf (high / 32 % 4) (registerOf cpu r))) k)))))
 
 -- the operand by its mode
 unfoldable pub operandOf : Mode → Cpu → ℕ → List ℕ → ℕ → Operand

@@ -1,4 +1,4 @@
--- What private code is held to: the packed state of a run as the state that it stands for. Nothing here has to be believed:
+-- What private code is held to: the packed form of a run as the Cpu that it stands for. Nothing here has to be believed:
 -- the contracts of the public functions do not mention it.
 use mathlib.Core.List.{List, [], _∷_}
 use Prim.Native.Nat.{ℕ, _+_, _*_, _/_, _%_, _-_, _^_}
@@ -53,7 +53,7 @@ cpuOf m =
       returns = returnQuarters (m .low) (m .high);
     }
 
--- the same for what the code answers with
+-- views of an effect, of what a step comes to, of an operand and of what the buffers offer
 abbrev pub effectOf : PackedEffect → Effect
 effectOf packed.Nothing = result.Nothing
 effectOf (packed.Store a v) = result.Store (record { 0 = a }) (v % 256)

@@ -13,7 +13,7 @@ use Rattle.cpu.specs.declared.cpu.Cpu.{Cpu}
 unfoldable pub psuWithSense : Cpu → Bool → ℕ
 psuWithSense cpu unread = if unread then psuOf cpu % 128 + 128 else psuOf cpu % 128
 
--- an instruction of k bytes: the state by the mask in the second
+-- an instruction of k bytes whose second byte is a mask: f gives the Cpu by that mask
 unfoldable pub maskedOf : Cpu → ℕ → List ℕ → (ℕ → Cpu) → StepResult
 maskedOf cpu k window f = ifFetched (fetchOf window (addressAfter cpu 1)) (stoppedOf cpu 6) (λ mask. runningOf (advancedOf (f mask) k))
 

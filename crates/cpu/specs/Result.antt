@@ -2,7 +2,7 @@
 use mathlib.Core.Bool.{Bool}
 use Prim.Native.Nat.{ℕ}
 use Rattle.cpu.specs.Address.{addInPage}
-use Rattle.cpu.specs.Alu.{operateOf}
+use Rattle.cpu.specs.Alu.{operationResultOf}
 use Rattle.cpu.specs.Cpu.{counterOf, pslOf, registerOf, withCounter, withRegister, withPsl}
 use Rattle.common.specs.declared.places.Address.{Address}
 use Rattle.cpu.specs.declared.alu.AluResult.{AluResult}
@@ -15,14 +15,14 @@ pub record Ports : Type 0 where
   pub byte : ℕ
   pub full : Bool
 
--- what a step does beside the state: a byte stored in the window, the input byte taken, a byte put out
+-- what a step does beside the Cpu: a byte stored in the window, the input byte taken, a byte put out
 pub data Effect : Type 0 where
   Nothing : Effect
   Store : Address → ℕ → Effect
   Take : Effect
   Put : ℕ → Effect
 
--- what a step comes to: the state, document 01's status, and the effect
+-- what a step comes to: the Cpu, document 01's status, and the effect
 pub record StepResult : Type 0 where
   pub cpu : Cpu
   pub status : ℕ
@@ -32,7 +32,7 @@ pub record StepResult : Type 0 where
 abbrev pub stepResult : Cpu → ℕ → Effect → StepResult
 stepResult cpu n x = record { cpu = cpu; status = n; effect = x }
 
--- status 1, and no effect but on the state
+-- status 1, and no effect but on the Cpu
 abbrev pub runningOf : Cpu → StepResult
 runningOf cpu = stepResult cpu 1 Nothing
 
@@ -56,10 +56,10 @@ advancedOf cpu k = withCounter cpu (addressAfter cpu k)
 unfoldable pub withAluResult : Cpu → ℕ → AluResult → Cpu
 withAluResult cpu r o = withPsl (withRegister cpu r (o .value)) (o .psl)
 
--- an instruction of k bytes that changes register r alone
+-- an instruction of k bytes whose result goes to register r
 unfoldable pub registerChangedOf : Cpu → ℕ → ℕ → AluResult → StepResult
 registerChangedOf cpu k r o = runningOf (advancedOf (withAluResult cpu r o) k)
 
 -- an operation on register r and the operand b
 unfoldable pub operatedOf : Operation → Cpu → ℕ → ℕ → StepResult
-operatedOf f cpu r b = runningOf (withAluResult cpu r (operateOf f (pslOf cpu) (registerOf cpu r) b))
+operatedOf f cpu r b = runningOf (withAluResult cpu r (operationResultOf f (pslOf cpu) (registerOf cpu r) b))

@@ -4,9 +4,9 @@ use Prim.Native.Nat.{ℕ}
 use Rattle.cpu.specs.declared.cpu.Cpu.{Cpu}
 use Rattle.cpu.specs.declared.state.State.{State}
 
--- a state at rest: status 0, and nothing in the buffers
-abbrev pub restingState : Cpu → State
-restingState cpu = record { cpu = cpu; status = 0; filled = 0; read = 0; written = 0 }
+-- the state of an empty slot: status 0, and nothing in the buffers
+abbrev pub emptyState : Cpu → State
+emptyState cpu = record { cpu = cpu; status = 0; filled = 0; read = 0; written = 0 }
 
 -- the parts of a state, anew
 abbrev pub withCpu : Cpu → State → State

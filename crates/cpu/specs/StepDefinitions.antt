@@ -1,14 +1,14 @@
 -- Names for lists of definitions: `unfolding step-definitions` opens all that a step is made of, so that a worked case computes.
 -- Nothing here has to be believed.
 use Rattle.common.specs.Choice.{if_then_else_}
-use Rattle.cpu.specs.Address.{displacedOf, displacementOf, fetchOf, ifFetched, ifLocated, pointerOf, relativeOf, resolveOf}
-use Rattle.cpu.specs.Alu.{adjustDigitOf, carryInOf, compareCCOf, compareResultOf, conditionCodeOf, decimalAdjustOf, loadResultOf, operateOf, overflowOf, rotateLeftOf, rotateResultOf, rotateRightOf, signedOf, sumResultOf, testCCOf}
+use Rattle.cpu.specs.Address.{displacedOf, displacementOf, fetchOf, ifFetched, ifResolved, pointerOf, relativeOf, resolveOf}
+use Rattle.cpu.specs.Alu.{adjustDigitOf, carryInOf, compareCCOf, compareResultOf, conditionCodeOf, decimalAdjustOf, loadResultOf, operationResultOf, overflowOf, rotateLeftOf, rotateResultOf, rotateRightOf, signedOf, sumResultOf, testCCOf}
 use Rattle.cpu.specs.Branch.{branchIfTakenOf, branchOf, clearIIOf, conditionMetOf, indexedBranchOf, isCallOf, isTakenOf, jumpOf, registerCountedOf, returnEnableOf, returnIfOf, targetOf, zeroBranchOf}
 use Rattle.cpu.specs.Cpu.{callOf, counterOf, freshCpu, pslOf, psuOf, registerIndex, registerOf, returnOf, returnFromCallOf, withCounter, withPsl, withPsu, withRegister, withReturn}
 use Rattle.cpu.specs.Decode.{decodeOf, eachOfFour, firstAndRest, restAndLast}
 use Rattle.cpu.specs.Instruction.{executeOf, instructionStep}
 use Rattle.cpu.specs.Machine.{machineStep, withEffect}
-use Rattle.cpu.specs.Operand.{absoluteOperandOf, dataRegisterOf, immediateOperandOf, indexOf, indexedAddressOf, operandOf, operateOnOperandOf, registerOperandOf, relativeOperandOf, steppedIndexOf}
+use Rattle.cpu.specs.Operand.{absoluteOperandOf, dataRegisterOf, immediateOperandOf, indexValueOf, indexedAddressOf, operandOf, operateOnOperandOf, registerOperandOf, relativeOperandOf, steppedIndexOf}
 use Rattle.cpu.specs.Port.{readDataOf, writeDataOf}
 use Rattle.cpu.specs.Psw.{maskedOf, psuWithSense, testedOf}
 use Rattle.cpu.specs.Result.{advancedOf, operatedOf, registerChangedOf, withAluResult}
@@ -20,17 +20,17 @@ cpu-definitions = Unit {0}
 
 -- results and the PSL that they leave
 unfoldable pub alu-definitions : Type 0
-unfolding conditionCodeOf overflowOf sumResultOf carryInOf loadResultOf signedOf compareCCOf compareResultOf operateOf testCCOf rotateResultOf rotateLeftOf rotateRightOf adjustDigitOf decimalAdjustOf
+unfolding conditionCodeOf overflowOf sumResultOf carryInOf loadResultOf signedOf compareCCOf compareResultOf operationResultOf testCCOf rotateResultOf rotateLeftOf rotateRightOf adjustDigitOf decimalAdjustOf
 alu-definitions = Unit {0}
 
 -- addresses, and reading through them
 unfoldable pub address-definitions : Type 0
-unfolding fetchOf ifFetched ifLocated pointerOf resolveOf displacementOf displacedOf relativeOf
+unfolding fetchOf ifFetched ifResolved pointerOf resolveOf displacementOf displacedOf relativeOf
 address-definitions = Unit {0}
 
 -- the operand of each addressing mode
 unfoldable pub operand-definitions : Type 0
-unfolding indexOf indexedAddressOf dataRegisterOf steppedIndexOf registerOperandOf immediateOperandOf relativeOperandOf absoluteOperandOf operandOf operateOnOperandOf
+unfolding indexValueOf indexedAddressOf dataRegisterOf steppedIndexOf registerOperandOf immediateOperandOf relativeOperandOf absoluteOperandOf operandOf operateOnOperandOf
 operand-definitions = Unit {0}
 
 -- branches, calls and returns

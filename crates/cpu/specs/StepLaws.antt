@@ -17,17 +17,17 @@ use Rattle.cpu.specs.Result.{Ports, Effect, Nothing, Store, Take, Put, S
 use Rattle.cpu.specs.Cpu.{counterOf}
 use Rattle.cpu.specs.Psw.{maskedOf, testedOf}
 use Rattle.cpu.specs.ChoiceLaws.{if-all, byte-all, address-all}
-use Rattle.cpu.specs.WrtdSteps.{isWrtd, atWrtd}
+use Rattle.cpu.specs.WrtdSteps.{isWrtd, isAtWrtd}
 use Rattle.common.specs.declared.places.Address.{Address}
 use Rattle.cpu.specs.declared.address.Fetched.{Fetched}
 use Rattle.cpu.specs.declared.address.Fetched.the-variants.{Byte, NoByte}
-use Rattle.cpu.specs.declared.address.Located.{Located}
-use Rattle.cpu.specs.declared.address.Located.the-variants.{At, Outside}
+use Rattle.cpu.specs.declared.address.Resolved.{Resolved}
+use Rattle.cpu.specs.declared.address.Resolved.the-variants.{At, Outside}
 use Rattle.cpu.specs.declared.alu.AluResult.{AluResult}
 use Rattle.cpu.specs.declared.branch.Target.{Target}
 use Rattle.cpu.specs.declared.branch.Target.the-variants.{To, NoTarget}
 use Rattle.cpu.specs.declared.decode.Instruction.{Instruction}
-use Rattle.cpu.specs.declared.decode.Instruction.the-variants.{Unknown, UnusedPort, ExtendedPort, Operate, Strz, Nop, Halt, Spsu, Spsl, Lpsu, Lpsl, Cpsu, Cpsl, Ppsu, Ppsl, Tpsu, Tpsl, Tmi, Dar, Rrr, Rrl, Redd, Wrtd, Retc, Rete, Branch, Zbrr, Zbsr, Bxa, Bsxa}
+use Rattle.cpu.specs.declared.decode.Instruction.the-variants.{Unknown, ControlPort, ExtendedPort, Operate, Strz, Nop, Halt, Spsu, Spsl, Lpsu, Lpsl, Cpsu, Cpsl, Ppsu, Ppsl, Tpsu, Tpsl, Tmi, Dar, Rrr, Rrl, Redd, Wrtd, Retc, Rete, Branch, Zbrr, Zbsr, Bxa, Bsxa}
 use Rattle.cpu.specs.declared.decode.BranchKind.{BranchKind}
 use Rattle.cpu.specs.declared.decode.Mode.{Mode}
 use Rattle.cpu.specs.declared.decode.Mode.the-variants.{Register, Immediate, Relative, Absolute}
@@ -55,8 +55,8 @@ module _ (cpu : Cpu) (w : List ℕ) (p : Ports) where
   outside : Ends (stoppedOf cpu 6)
   outside = stops 6 (omega arith) (omega arith)
 
-  -- an address that is there is one that the state leads to
-  record LeadsIfAt (f : Located) : Type 1 where
+  -- an address that is there is one that the Cpu leads to
+  record LeadsIfAt (f : Resolved) : Type 1 where
     led : (a : Address) → f ≡ At a → LeadsTo cpu a
 
   outside-led : LeadsIfAt Outside
@@ -128,7 +128,7 @@ module _ (cpu : Cpu) (w : List ℕ) (p : Ports) where
         jump-ends (isCallOf kind) _ t back (keep-counted kind cpu r) (resolve-led indirect a h .led t e) l))
         (λ e. continues _ (λ i s. i .with-counter _ back (l i s) (keep-counted kind cpu r i s)))
 
-    -- what a branch's bytes say is an address that the state leads to
+    -- what a branch's bytes say is an address that the Cpu leads to
     data TargetLed : Target → Type 1 where
       led-to : (indirect : ℕ) (a back : Address) → LeadsTo cpu a → LeadsTo cpu back → TargetLed (To indirect a back)
       led-nowhere : TargetLed NoTarget
@@ -195,7 +195,7 @@ module _ (cpu : Cpu) (w : List ℕ) (p : Ports) where
     execute-ends : (i : Instruction) (r : ℕ) → 0 < length w → Ending cpu w p (isWrtd i) (executeOf i cpu k w p r)
     unfolding executeOf isWrtd
     execute-ends Unknown r h = stops 5 (omega arith) (omega arith)
-    execute-ends UnusedPort r h = stops 7 (omega arith) (omega arith)
+    execute-ends ControlPort r h = stops 7 (omega arith) (omega arith)
     execute-ends ExtendedPort r h = stops 7 (omega arith) (omega arith)
     execute-ends (Operate mode access) r h = operate-ends h mode access r
     execute-ends Strz r h = register-changed-ends r _
@@ -226,8 +226,8 @@ module _ (cpu : Cpu) (w : List ℕ) (p : Ports) where
     execute-ends Bsxa r h = indexed-branch-ends true
 
   -- every step ends in one of the eight ways
-  pub step-ends : Ending cpu w p (atWrtd cpu w) (instructionStep cpu w p)
-  unfolding instructionStep atWrtd ifFetched
+  pub step-ends : Ending cpu w p (isAtWrtd cpu w) (instructionStep cpu w p)
+  unfolding instructionStep isAtWrtd ifFetched
   step-ends = go (fetchOf w (counterOf cpu)) refl
     where
       go : (f : Fetched) → fetchOf w (counterOf cpu) ≡ f

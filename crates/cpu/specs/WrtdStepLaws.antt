@@ -10,7 +10,7 @@ use Rattle.cpu.specs.Instruction.{instructionStep}
 use Rattle.cpu.specs.Machine.{Machine, portsOf, withEffect, afterStep, machineStep}
 use Rattle.cpu.specs.Result.{StepResult}
 use Rattle.cpu.specs.StepLaws.{Ending, continues, halts, stores, takes-input, puts-output, wants-input, finds-full, stops, step-ends}
-use Rattle.cpu.specs.WrtdSteps.{atWrtd, carriesWrtd, wrtdSteps}
+use Rattle.cpu.specs.WrtdSteps.{isAtWrtd, executesWrtd, wrtdSteps}
 
 module _ (m : Machine) where
   -- what the instruction at the counter writes if the machine runs
@@ -26,13 +26,13 @@ module _ (m : Machine) where
   ending-written (finds-full h) = rw h (omega arith)
   ending-written (stops n l h) = omega arith
 
-  pub step-written : machineStep m .state .written ≡ m .state .written + (if carriesWrtd m then 1 else 0)
+  pub step-written : machineStep m .state .written ≡ m .state .written + (if executesWrtd m then 1 else 0)
   unfolding machineStep if_then_else_
   step-written = go (eqb (m .state .status) 1)
     where
       go : (runs : Bool)
           → (if runs then afterStep (instructionStep (m .state .cpu) (m .window) (portsOf m)) m else m) .state .written
-          ≡ m .state .written + (if runs && (atWrtd (m .state .cpu) (m .window) && not (portsOf m .full)) then 1 else 0)
+          ≡ m .state .written + (if runs && (isAtWrtd (m .state .cpu) (m .window) && not (portsOf m .full)) then 1 else 0)
       go true = ending-written (step-ends (m .state .cpu) (m .window) (portsOf m))
       go false = omega arith
 

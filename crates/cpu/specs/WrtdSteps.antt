@@ -10,13 +10,13 @@ use Rattle.cpu.specs.Decode.{decodeOf}
 use Rattle.cpu.specs.Machine.{Machine, portsOf, machineStep}
 use Rattle.cpu.specs.Cpu.{counterOf}
 use Rattle.cpu.specs.declared.decode.Instruction.{Instruction}
-use Rattle.cpu.specs.declared.decode.Instruction.the-variants.{Unknown, UnusedPort, ExtendedPort, Operate, Strz, Nop, Halt, Spsu, Spsl, Lpsu, Lpsl, Cpsu, Cpsl, Ppsu, Ppsl, Tpsu, Tpsl, Tmi, Dar, Rrr, Rrl, Redd, Wrtd, Retc, Rete, Branch, Zbrr, Zbsr, Bxa, Bsxa}
+use Rattle.cpu.specs.declared.decode.Instruction.the-variants.{Unknown, ControlPort, ExtendedPort, Operate, Strz, Nop, Halt, Spsu, Spsl, Lpsu, Lpsl, Cpsu, Cpsl, Ppsu, Ppsl, Tpsu, Tpsl, Tmi, Dar, Rrr, Rrl, Redd, Wrtd, Retc, Rete, Branch, Zbrr, Zbsr, Bxa, Bsxa}
 use Rattle.cpu.specs.declared.cpu.Cpu.{Cpu}
 
 -- the instruction is WRTD
 unfoldable pub isWrtd : Instruction → Bool
 isWrtd Unknown = false
-isWrtd UnusedPort = false
+isWrtd ControlPort = false
 isWrtd ExtendedPort = false
 isWrtd (Operate mode access) = false
 isWrtd Strz = false
@@ -47,14 +47,14 @@ isWrtd Bxa = false
 isWrtd Bsxa = false
 
 -- the instruction at the counter is WRTD
-unfoldable pub atWrtd : Cpu → List ℕ → Bool
-atWrtd cpu w = ifFetched (fetchOf w (counterOf cpu)) false (λ op. isWrtd (decodeOf op))
+unfoldable pub isAtWrtd : Cpu → List ℕ → Bool
+isAtWrtd cpu w = ifFetched (fetchOf w (counterOf cpu)) false (λ op. isWrtd (decodeOf op))
 
 -- a step carries WRTD out: the machine runs, WRTD is next, and the output is not full
-abbrev pub carriesWrtd : Machine → Bool
-carriesWrtd m = eqb (m .state .status) 1 && (atWrtd (m .state .cpu) (m .window) && not (portsOf m .full))
+abbrev pub executesWrtd : Machine → Bool
+executesWrtd m = eqb (m .state .status) 1 && (isAtWrtd (m .state .cpu) (m .window) && not (portsOf m .full))
 
 -- how many of n steps do so
 unfoldable pub wrtdSteps : ℕ → Machine → ℕ
 wrtdSteps zero m = 0
-wrtdSteps (suc n) m = wrtdSteps n m + (if carriesWrtd (times n machineStep m) then 1 else 0)
+wrtdSteps (suc n) m = wrtdSteps n m + (if executesWrtd (times n machineStep m) then 1 else 0)

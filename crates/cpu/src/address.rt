@@ -10,7 +10,7 @@ pub enum Fetched {
     NoByte,
 }
 
-pub enum Located {
+pub enum Resolved {
     At(Address),
     Outside,
 }
@@ -45,24 +45,24 @@ pub(crate) fn fetch(window: &[u8], a: Address) -> Fetched
     }
 }
 
-pub(crate) fn pointer(window: &[u8], a: Address) -> Located
+pub(crate) fn pointer(window: &[u8], a: Address) -> Resolved
     ensures { λ r. ⌜ r ≡ pointerOf (now (window .entry)) a ⌝ }
 {
     let Fetched::Byte(high) = fetch(window, a) else {
-        return Located::Outside;
+        return Resolved::Outside;
     };
     let Fetched::Byte(low) = fetch(window, add_in_page(a, 1)) else {
-        return Located::Outside;
+        return Resolved::Outside;
     };
     let p = address_of(high, low);
-    Located::At(p)
+    Resolved::At(p)
 }
 
-pub(crate) fn resolve(window: &[u8], indirect: u8, a: Address) -> Located
+pub(crate) fn resolve(window: &[u8], indirect: u8, a: Address) -> Resolved
     ensures { λ r. ⌜ r ≡ resolveOf (now (window .entry)) indirect a ⌝ }
 {
     if indirect == 0 {
-        Located::At(a)
+        Resolved::At(a)
     } else {
         pointer(window, a)
     }

@@ -2,7 +2,7 @@
 ghost use mathlib.Core.Path.{_≡_};
 ghost use Prim.Native.Nat.{_<_};
 ghost use Rattle.cpu.specs.Cpu.{bitRS};
-ghost use Rattle.cpu.specs.Alu.{conditionCodeOf, withCC, withFlags, sumOf, carryOf, digitCarryOf, overflowOf, sumResultOf, carryInOf, loadResultOf, signedOf, compareCCOf, compareResultOf, operateOf, testCCOf, rotateResultOf, rotateLeftOf, rotateRightOf, adjustDigitOf, decimalAdjustOf};
+ghost use Rattle.cpu.specs.Alu.{conditionCodeOf, withCC, withArithmeticBits, sumOf, carryOf, digitCarryOf, overflowOf, sumResultOf, carryInOf, loadResultOf, signedOf, compareCCOf, compareResultOf, operationResultOf, testCCOf, rotateResultOf, rotateLeftOf, rotateRightOf, adjustDigitOf, decimalAdjustOf};
 use crate::decode::Operation;
 
 // A result byte, and the PSL that it leaves. No result changes RS: every function here that makes one says so.
@@ -32,12 +32,12 @@ pub(crate) fn with_cc(psl: u8, cc: u8) -> u8
     cc * 64 + psl % 64
 }
 
-fn with_flags(psl: u8, cc: u8, idc: u8, ovf: u8, c: u8) -> u8
+fn with_arithmetic_bits(psl: u8, cc: u8, idc: u8, ovf: u8, c: u8) -> u8
     requires { ⌜ cc < 3 ⌝ }
     requires { ⌜ idc < 2 ⌝ }
     requires { ⌜ ovf < 2 ⌝ }
     requires { ⌜ c < 2 ⌝ }
-    ensures { λ r. ⌜ r ≡ withFlags psl cc idc ovf c ⌝ }
+    ensures { λ r. ⌜ r ≡ withArithmeticBits psl cc idc ovf c ⌝ }
     ensures { λ r. ⌜ bitRS r ≡ bitRS psl ⌝ }
 {
     cc * 64 + idc * 32 + psl / 8 % 4 * 8 + ovf * 4 + psl / 2 % 2 * 2 + c
@@ -101,7 +101,7 @@ fn sum_result(psl: u8, a: u8, b: u8, k: u8) -> AluResult
     let ovf = overflow(a, b, k, s.carry);
     AluResult {
         value: s.value,
-        psl: with_flags(psl, cc, idc, ovf, s.carry),
+        psl: with_arithmetic_bits(psl, cc, idc, ovf, s.carry),
     }
 }
 
@@ -159,8 +159,8 @@ fn compare_result(psl: u8, a: u8, b: u8) -> AluResult
     }
 }
 
-pub(crate) fn operate(operation: Operation, psl: u8, a: u8, b: u8) -> AluResult
-    ensures { λ o. ⌜ o ≡ operateOf operation psl a b ⌝ }
+pub(crate) fn operation_result(operation: Operation, psl: u8, a: u8, b: u8) -> AluResult
+    ensures { λ o. ⌜ o ≡ operationResultOf operation psl a b ⌝ }
     ensures { λ o. ⌜ bitRS (o .psl) ≡ bitRS psl ⌝ }
 {
     match operation {
@@ -190,7 +190,7 @@ fn rotate_result(psl: u8, a: u8, v: u8, c: u8) -> AluResult
     let cc = condition_code(v);
     AluResult {
         value: v,
-        psl: with_flags(psl, cc, v / 32 % 2, (a / 128 + v / 128) % 2, c),
+        psl: with_arithmetic_bits(psl, cc, v / 32 % 2, (a / 128 + v / 128) % 2, c),
     }
 }
 

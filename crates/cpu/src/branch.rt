@@ -3,11 +3,11 @@ ghost use mathlib.Core.Bool.{not};
 ghost use mathlib.Core.Path.{_≡_};
 ghost use Prim.Native.Nat.{_<_};
 ghost use Rattle.cpu.specs.Branch.{conditionMetOf, registerCountedOf, registerNotZero, isTakenOf, isCallOf, jumpOf, branchIfTakenOf, targetOf, branchOf, zeroBranchOf, indexedBranchOf, returnIfOf, clearIIOf, returnEnableOf};
-ghost use Rattle.cpu.specs.Decode.{branchLength};
+ghost use Rattle.cpu.specs.Decode.{branchModeLength};
 ghost use Rattle.cpu.specs.PackedCpu.{cpuOf, stepResultOf};
 use crate::address;
 use crate::address::Fetched;
-use crate::address::Located;
+use crate::address::Resolved;
 use crate::decode::BranchKind;
 use crate::decode::BranchMode;
 use crate::packed_cpu;
@@ -127,7 +127,7 @@ fn branch_if_taken(
     ensures { λ s. ⌜ stepResultOf s ≡ branchIfTakenOf kind (cpuOf m) (cpuOf n) (now (window .entry)) r indirect a next ⌝ }
 {
     if is_taken(kind, n, r) {
-        let Located::At(t) = address::resolve(window, indirect, a) else {
+        let Resolved::At(t) = address::resolve(window, indirect, a) else {
             return result::stopped(m, 6);
         };
         let call = is_call(kind);
@@ -139,20 +139,20 @@ fn branch_if_taken(
 }
 
 fn target_of(mode: BranchMode, m: PackedCpu, window: &[u8]) -> Target
-    ensures { λ t. ⌜ t ≡ targetOf mode (cpuOf m) (branchLength mode) (now (window .entry)) ⌝ }
+    ensures { λ t. ⌜ t ≡ targetOf mode (cpuOf m) (branchModeLength mode) (now (window .entry)) ⌝ }
 {
-    let first = result::address_after(m, 1);
-    let Fetched::Byte(high) = address::fetch(window, first) else {
+    let second_at = result::address_after(m, 1);
+    let Fetched::Byte(high) = address::fetch(window, second_at) else {
         return Target::NoTarget;
     };
-    let second = result::address_after(m, 2);
+    let third_at = result::address_after(m, 2);
     match mode {
         BranchMode::Relative => {
-            let a = address::relative(second, high);
-            Target::To(high / 128, a, second)
+            let a = address::relative(third_at, high);
+            Target::To(high / 128, a, third_at)
         }
         BranchMode::Absolute => {
-            let Fetched::Byte(low) = address::fetch(window, second) else {
+            let Fetched::Byte(low) = address::fetch(window, third_at) else {
                 return Target::NoTarget;
             };
             let a = address::address_of(high, low);
@@ -170,7 +170,7 @@ pub(crate) fn branch(
     r: u8,
 ) -> PackedStep
     requires { ⌜ r < 4 ⌝ }
-    ensures { λ s. ⌜ stepResultOf s ≡ branchOf mode kind (cpuOf m) (branchLength mode) (now (window .entry)) r ⌝ }
+    ensures { λ s. ⌜ stepResultOf s ≡ branchOf mode kind (cpuOf m) (branchModeLength mode) (now (window .entry)) r ⌝ }
 {
     let Target::To(indirect, a, next) = target_of(mode, m, window) else {
         return result::stopped(m, 6);
@@ -187,7 +187,7 @@ pub(crate) fn zero_branch(call: bool, m: PackedCpu, window: &[u8]) -> PackedStep
         return result::stopped(m, 6);
     };
     let a = address::relative(Address(0), b);
-    let Located::At(t) = address::resolve(window, b / 128, a) else {
+    let Resolved::At(t) = address::resolve(window, b / 128, a) else {
         return result::stopped(m, 6);
     };
     let next = result::address_after(m, 2);
@@ -197,16 +197,16 @@ pub(crate) fn zero_branch(call: bool, m: PackedCpu, window: &[u8]) -> PackedStep
 pub(crate) fn indexed_branch(call: bool, m: PackedCpu, window: &[u8]) -> PackedStep
     ensures { λ s. ⌜ stepResultOf s ≡ indexedBranchOf call (cpuOf m) 3 (now (window .entry)) ⌝ }
 {
-    let first = result::address_after(m, 1);
-    let Fetched::Byte(high) = address::fetch(window, first) else {
+    let second_at = result::address_after(m, 1);
+    let Fetched::Byte(high) = address::fetch(window, second_at) else {
         return result::stopped(m, 6);
     };
-    let second = result::address_after(m, 2);
-    let Fetched::Byte(low) = address::fetch(window, second) else {
+    let third_at = result::address_after(m, 2);
+    let Fetched::Byte(low) = address::fetch(window, third_at) else {
         return result::stopped(m, 6);
     };
     let a = address::address_of(high, low);
-    let Located::At(t) = address::resolve(window, high / 128, a) else {
+    let Resolved::At(t) = address::resolve(window, high / 128, a) else {
         return result::stopped(m, 6);
     };
     let v = packed_cpu::register(m, 3);

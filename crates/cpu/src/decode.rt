@@ -1,6 +1,6 @@
 // The instruction of each first byte, and how many bytes an instruction has.
 ghost use mathlib.Core.Path.{_≡_};
-ghost use Rattle.cpu.specs.Decode.{eachOfFour, firstAndRest, restAndLast, decodeOf, modeLength, branchLength, instructionLength};
+ghost use Rattle.cpu.specs.Decode.{eachOfFour, firstAndRest, restAndLast, decodeOf, modeLength, branchModeLength, instructionLength};
 
 // The families that come in four addressing modes, by the manual's mnemonics.
 pub enum Operation {
@@ -50,7 +50,7 @@ pub enum BranchKind {
 // is compiled into it.
 pub enum Instruction {
     Unknown,
-    UnusedPort,
+    ControlPort,
     ExtendedPort,
     Operate(Mode, Access),
     Strz,
@@ -128,7 +128,7 @@ impl Mode {
 
 impl BranchMode {
     fn length(self) -> u16
-        ensures { λ n. ⌜ n ≡ branchLength self ⌝ }
+        ensures { λ n. ⌜ n ≡ branchModeLength self ⌝ }
     {
         match self {
             BranchMode::Relative => 2,
@@ -180,7 +180,7 @@ impl Instruction {
             // 2C EORA
             11 => Instruction::Operate(Mode::Absolute, Access::Read(Operation::Eor)),
             // 30 REDC
-            12 => Instruction::UnusedPort,
+            12 => Instruction::ControlPort,
             // 34 RETE
             13 => Instruction::Rete,
             // 38 BSTR
@@ -268,7 +268,7 @@ impl Instruction {
             // AC SUBA
             43 => Instruction::Operate(Mode::Absolute, Access::Read(Operation::Sub)),
             // B0 WRTC
-            44 => Instruction::UnusedPort,
+            44 => Instruction::ControlPort,
             // B4 TPSU, B5 TPSL, B6, B7 unknown
             45 => each_of_four(
                 Instruction::Tpsu,
@@ -331,7 +331,7 @@ impl Instruction {
     {
         match self {
             Instruction::Unknown => 1,
-            Instruction::UnusedPort => 1,
+            Instruction::ControlPort => 1,
             Instruction::ExtendedPort => 2,
             Instruction::Operate(mode, _access) => mode.length(),
             Instruction::Strz => 1,

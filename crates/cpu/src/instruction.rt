@@ -32,7 +32,7 @@ fn execute(
 {
     match i {
         Instruction::Unknown => result::stopped(m, 5),
-        Instruction::UnusedPort => result::stopped(m, 7),
+        Instruction::ControlPort => result::stopped(m, 7),
         Instruction::ExtendedPort => result::stopped(m, 7),
         Instruction::Operate(mode, access) => operand::operate_on_operand(
             mode,

@@ -8,8 +8,8 @@ use crate::partition::Positions;
 use crate::state::State;
 use common::Layout;
 
-// At most so many steps, until the status is not 1. The slice holds the partition's bytes and nothing else: one that is
-// shorter than the layout cuts the parts that it ends in, and of one that is longer the rest is untouched.
+// At most so many steps, until the status is not 1. A caller lends exactly the partition's bytes. A slice that is shorter than the
+// layout cuts the parts behind its end; of one that is longer the rest is untouched.
 pub fn run(state: State, partition: &mut [u8], layout: Layout, steps: u64) -> State
     ensures { λ s. ⌜ machineOf layout s (now (partition .exit)) ≡ times steps machineStep (machineOf layout state (now (partition .entry))) ⌝ }
     ensures { λ s. ⌜ beyond layout (now (partition .exit)) ≡ beyond layout (now (partition .entry)) ⌝ }

@@ -3,10 +3,10 @@ ghost use mathlib.Core.Path.{_≡_};
 ghost use Prim.Native.Nat.{_<_};
 ghost use Rattle.cpu.specs.PackedCpu.{cpuOf, stepResultOf, operandResultOf};
 ghost use Rattle.cpu.specs.Decode.{modeLength};
-ghost use Rattle.cpu.specs.Operand.{indexOf, indexedAddressOf, dataAddressOf, dataRegisterOf, steppedIndexOf, registerOperandOf, immediateOperandOf, relativeOperandOf, absoluteOperandOf, operandOf, operateOnOperandOf};
+ghost use Rattle.cpu.specs.Operand.{indexValueOf, indexedAddressOf, dataAddressOf, dataRegisterOf, steppedIndexOf, registerOperandOf, immediateOperandOf, relativeOperandOf, absoluteOperandOf, operandOf, operateOnOperandOf};
 use crate::address;
 use crate::address::Fetched;
-use crate::address::Located;
+use crate::address::Resolved;
 use crate::decode::Access;
 use crate::decode::Mode;
 use crate::packed_cpu;
@@ -16,15 +16,16 @@ use crate::result::PackedEffect;
 use crate::result::PackedStep;
 use common::Address;
 
-// An operand: its byte, its address, the control bits (not 0 where R0 is the data), and the state after the
-// instruction's own bytes. The control bits stand for the register, whose range they keep.
+// An operand: its byte, its address, the control bits (not 0 where R0 is the data), and the registers after the
+// instruction's own bytes. The control bits are kept in place of the register's number: `data_register` makes one of them that is
+// below 4.
 pub enum OperandResult {
     Ready(u8, Address, u8, PackedCpu),
     Missing,
 }
 
-fn index(control: u8, v: u8) -> u8
-    ensures { λ i. ⌜ i ≡ indexOf control v ⌝ }
+fn index_value(control: u8, v: u8) -> u8
+    ensures { λ i. ⌜ i ≡ indexValueOf control v ⌝ }
 {
     if control == 0 {
         0
@@ -37,18 +38,18 @@ fn index(control: u8, v: u8) -> u8
     }
 }
 
-fn indexed_address(window: &[u8], indirect: u8, a: Address, i: u8) -> Located
+fn indexed_address(window: &[u8], indirect: u8, a: Address, i: u8) -> Resolved
     ensures { λ p. ⌜ p ≡ indexedAddressOf (now (window .entry)) indirect a i ⌝ }
 {
     if indirect == 0 {
         let d = address::add_in_page(a, i as u16);
-        return Located::At(d);
+        return Resolved::At(d);
     }
-    let Located::At(p) = address::pointer(window, a) else {
-        return Located::Outside;
+    let Resolved::At(p) = address::pointer(window, a) else {
+        return Resolved::Outside;
     };
     let d = address::add_wrapping(p, i);
-    Located::At(d)
+    Resolved::At(d)
 }
 
 fn data_address(m: PackedCpu, high: u8, low: u8) -> Address
@@ -106,7 +107,7 @@ fn relative_operand(m: PackedCpu, window: &[u8], r: u8) -> OperandResult
     };
     let next = result::address_after(m, 2);
     let direct = address::relative(next, second);
-    let Located::At(a) = address::resolve(window, second / 128, direct) else {
+    let Resolved::At(a) = address::resolve(window, second / 128, direct) else {
         return OperandResult::Missing;
     };
     let Fetched::Byte(b) = address::fetch(window, a) else {
@@ -120,19 +121,19 @@ fn absolute_operand(m: PackedCpu, window: &[u8], r: u8) -> OperandResult
     requires { ⌜ r < 4 ⌝ }
     ensures { λ o. ⌜ operandResultOf r o ≡ absoluteOperandOf (cpuOf m) 3 (now (window .entry)) r ⌝ }
 {
-    let first = result::address_after(m, 1);
-    let Fetched::Byte(high) = address::fetch(window, first) else {
+    let second_at = result::address_after(m, 1);
+    let Fetched::Byte(high) = address::fetch(window, second_at) else {
         return OperandResult::Missing;
     };
-    let second = result::address_after(m, 2);
-    let Fetched::Byte(low) = address::fetch(window, second) else {
+    let third_at = result::address_after(m, 2);
+    let Fetched::Byte(low) = address::fetch(window, third_at) else {
         return OperandResult::Missing;
     };
     let control = high / 32 % 4;
     let v = packed_cpu::register(m, r);
-    let i = index(control, v);
+    let i = index_value(control, v);
     let direct = data_address(m, high, low);
-    let Located::At(a) = indexed_address(window, high / 128, direct, i) else {
+    let Resolved::At(a) = indexed_address(window, high / 128, direct, i) else {
         return OperandResult::Missing;
     };
     let Fetched::Byte(b) = address::fetch(window, a) else {

@@ -1,4 +1,4 @@
-// The state of a run, packed into words.
+// The registers of a run, packed into words.
 ghost use mathlib.Core.Path.{_≡_};
 ghost use mathlib.Core.List.{[], _∷_};
 ghost use Prim.Native.Nat.{_<_};
@@ -7,7 +7,7 @@ ghost use Rattle.cpu.specs.Cpu.{bitRS, counterOf, psuOf, pslOf, register
 use crate::cpu::Cpu;
 use common::Address;
 
-// The state while it runs: whole words only, so that the compiler keeps each in a register of its own.
+// A `Cpu` while it runs: whole words only, so that the compiler keeps each in a register of its own.
 // `registers` has R0 in its lowest byte, then R1 to R3 of the bank in use, then those of the other bank.
 // `low` and `high` have four return addresses each. No other file touches a field.
 pub struct PackedCpu {
@@ -103,7 +103,7 @@ pub(crate) fn with_psu(m: PackedCpu, p: u8) -> PackedCpu
 }
 
 // PSL with RS as it is, so that both banks stay where they are.
-pub(crate) fn with_psl_in_bank(m: PackedCpu, p: u8) -> PackedCpu
+pub(crate) fn with_psl_same_bank(m: PackedCpu, p: u8) -> PackedCpu
     requires { ⌜ bitRS p ≡ bitRS (pslOf (cpuOf m)) ⌝ }
     ensures { λ n. ⌜ cpuOf n ≡ withPsl (cpuOf m) p ⌝ }
 {
@@ -124,7 +124,7 @@ pub(crate) fn with_psl(m: PackedCpu, p: u8) -> PackedCpu
 {
     let old = psl(m);
     if p / 16 % 2 == old / 16 % 2 {
-        return with_psl_in_bank(m, p);
+        return with_psl_same_bank(m, p);
     }
     let mut next = m;
     next.registers = swap_banks(m.registers);

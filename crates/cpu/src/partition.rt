@@ -36,23 +36,29 @@ fn min(a: usize, b: usize) -> usize
     if a < b { a } else { b }
 }
 
-pub(crate) fn bounds_of(window: u16, input: u16, output: u16, filled: u16, all: usize) -> Bounds
-    ensures { λ b. ⌜ b ≡ boundsOf window input output filled all ⌝ }
-    ensures { λ b. ⌜ BoundsHold b all ⌝ }
+pub(crate) fn bounds_of(
+    window: u16,
+    input: u16,
+    output: u16,
+    filled: u16,
+    available: usize,
+) -> Bounds
+    ensures { λ b. ⌜ b ≡ boundsOf window input output filled available ⌝ }
+    ensures { λ b. ⌜ BoundsHold b available ⌝ }
 {
-    let w = window as usize;
-    let i = w + input as usize;
-    let o = i + output as usize;
-    let window_end = min(w, all);
-    let input_end = min(i, all);
-    let output_end = min(o, all);
+    let input_start = window as usize;
+    let output_start = input_start + input as usize;
+    let end = output_start + output as usize;
+    let window_end = min(input_start, available);
+    let input_end = min(output_start, available);
+    let output_end = min(end, available);
     Bounds {
         window_end,
-        input_start: w,
+        input_start,
         input_end,
-        output_start: i,
+        output_start,
         output_end,
-        end: o,
+        end,
         filled: filled as usize,
     }
 }

@@ -91,7 +91,7 @@ pub(crate) fn tested(m: PackedCpu, window: &[u8], v: u8) -> PackedStep
     let cc = alu::test_cc(v, mask);
     let u = packed_cpu::psl(m);
     let p = alu::with_cc(u, cc);
-    let n = packed_cpu::with_psl_in_bank(m, p);
+    let n = packed_cpu::with_psl_same_bank(m, p);
     let t = result::advanced(n, 2);
     result::running(t)
 }

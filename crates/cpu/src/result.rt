@@ -12,7 +12,7 @@ use crate::packed_cpu;
 use crate::packed_cpu::PackedCpu;
 use common::Address;
 
-// What a step does beside the state, in whole words: an address and a byte, or a byte.
+// What a step does beside the registers, in whole words: an address and a byte, or a byte.
 pub enum PackedEffect {
     Nothing,
     Store(u64, u64),
@@ -86,7 +86,7 @@ pub(crate) fn with_alu_result(m: PackedCpu, r: u8, o: AluResult) -> PackedCpu
     ensures { λ n. ⌜ cpuOf n ≡ withAluResult (cpuOf m) r o ⌝ }
 {
     let n = packed_cpu::with_register(m, r, o.value);
-    packed_cpu::with_psl_in_bank(n, o.psl)
+    packed_cpu::with_psl_same_bank(n, o.psl)
 }
 
 // A one-byte instruction.
@@ -106,7 +106,7 @@ pub(crate) fn operated(f: Operation, m: PackedCpu, r: u8, b: u8) -> PackedStep
 {
     let v = packed_cpu::register(m, r);
     let p = packed_cpu::psl(m);
-    let o = alu::operate(f, p, v, b);
+    let o = alu::operation_result(f, p, v, b);
     let n = with_alu_result(m, r, o);
     running(n)
 }

@@ -1,6 +1,6 @@
 // A machine's state: what is kept of it between runs.
 ghost use mathlib.Core.Path.{_≡_};
-ghost use Rattle.cpu.specs.State.{restingState};
+ghost use Rattle.cpu.specs.State.{emptyState};
 use crate::cpu::Cpu;
 
 // What is kept of a machine beside its bytes: document 01's status and the positions in its two buffers.
@@ -17,8 +17,8 @@ impl State {
     pub const LAST_STATUS: u8 = 7;
 
     // Status 0, and nothing in the buffers.
-    pub fn resting(cpu: Cpu) -> State
-        ensures { λ s. ⌜ s ≡ restingState cpu ⌝ }
+    pub fn empty(cpu: Cpu) -> State
+        ensures { λ s. ⌜ s ≡ emptyState cpu ⌝ }
     {
         State {
             cpu,

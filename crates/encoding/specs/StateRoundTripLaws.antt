@@ -8,9 +8,9 @@ use lib.Seq.{take-all}
 use Rattle.cpu.specs.CpuInvariantLaws.{CpuShaped}
 use Rattle.cpu.specs.State.{withCpu}
 use Rattle.cpu.specs.declared.state.State.{State}
-use Rattle.slices.specs.NumberLaws.{u16-back, u16-again, u16s-again}
+use Rattle.slices.specs.NumberLaws.{u16-decoded, u16-encoded, u16s-encoded}
 use Rattle.slices.specs.PieceLaws.{list-tabulated, part-tabulated, parts-concat}
-use Rattle.slices.specs.Slices.{Bytes, concat, tabulate}
+use Rattle.slices.specs.Slices.{AllBytes, concat, tabulate}
 use Rattle.encoding.specs.StateEncoding.{stateLength, stateBytes, stateFromBytes, cpuFromBytes, registersFromBytes, returnsFromBytes}
 
 -- a state has seven registers and eight return addresses: in the code by their types
@@ -48,16 +48,16 @@ state-by-elements-back s =
     record {
       cpu =
           record {
-            counter = u16-back (s .cpu .counter) [] j;
+            counter = u16-decoded (s .cpu .counter) [] j;
             registers = tabulate 7 (λ i. getD (s .cpu .registers) i 0);
             psu = s .cpu .psu;
             psl = s .cpu .psl;
-            returns = tabulate 8 (λ i. u16-back (getD (s .cpu .returns) i 0) [] j);
+            returns = tabulate 8 (λ i. u16-decoded (getD (s .cpu .returns) i 0) [] j);
           };
       status = s .status;
-      filled = u16-back (s .filled) [] j;
-      read = u16-back (s .read) [] j;
-      written = u16-back (s .written) [] j;
+      filled = u16-decoded (s .filled) [] j;
+      read = u16-decoded (s .read) [] j;
+      written = u16-decoded (s .written) [] j;
     }
 
 -- a state's bytes hold that state
@@ -65,20 +65,20 @@ pub state-decoded : (s : State) → StateShaped s → stateFromBytes (stateBytes
 state-decoded s h = ap (λ (t : State). stateFromBytes (stateBytes t)) (state-by-elements s h) ∙ state-by-elements-back s ∙ sym (state-by-elements s h)
 
 -- so many bytes are those of the state that they hold
-pub state-encoded : (l : List ℕ) → length l ≡ stateLength → Bytes l → stateBytes (stateFromBytes l) ≡ l
+pub state-encoded : (l : List ℕ) → length l ≡ stateLength → AllBytes l → stateBytes (stateFromBytes l) ≡ l
 unfolding stateBytes stateFromBytes cpuFromBytes registersFromBytes returnsFromBytes
 state-encoded l h small =
     (λ j.
     concat (
-    u16-again l small 0 (omega arith) j
+    u16-encoded l small 0 (omega arith) j
     ∷ part-tabulated 7 l 2 (omega arith) j
     ∷ part-tabulated 1 l 9 (omega arith) j
     ∷ part-tabulated 1 l 10 (omega arith) j
-    ∷ u16s-again l small 8 11 (omega arith) j
+    ∷ u16s-encoded l small 8 11 (omega arith) j
     ∷ part-tabulated 1 l 27 (omega arith) j
-    ∷ u16-again l small 28 (omega arith) j
-    ∷ u16-again l small 30 (omega arith) j
-    ∷ u16-again l small 32 (omega arith) j
+    ∷ u16-encoded l small 28 (omega arith) j
+    ∷ u16-encoded l small 30 (omega arith) j
+    ∷ u16-encoded l small 32 (omega arith) j
     ∷ []
     ))
     ∙ parts-concat l 0 (2 ∷ 7 ∷ 1 ∷ 1 ∷ 16 ∷ 1 ∷ 2 ∷ 2 ∷ 2 ∷ [])

@@ -19,13 +19,13 @@ use Rattle.supervisor.specs.System.{System, system, slotOf}
 use Rattle.supervisor.specs.Table.{newRefusal, newTable}
 use Rattle.supervisor.specs.declared.reported.Report.{Report}
 use Rattle.supervisor.specs.declared.table.Table.{Table}
-use Rattle.host.specs.HostCalls.{answerOf, lentSystem, bytesAfter, bufferOutcome, hostNew, host, hostOutcome, hostAfterCall, hostOutcomeOf, hostDrained, reportBytes, reportLength, hostReportRefusal, hostReport}
+use Rattle.host.specs.HostCalls.{answerOf, lentSystem, tableBytesAfter, bufferOutcome, hostNew, hostBuffers, hostOutcome, hostAfterCall, hostOutcomeOf, hostDrainedBuffer, reportBytes, reportLength, hostReportRefusal, hostReport}
 use Rattle.host.specs.TableEncoding.{tableFromBytes, tableLength}
-use Rattle.common.specs.RefusalDefinitions.{condition-definitions}
+use Rattle.common.specs.ConditionDefinitions.{condition-definitions}
 
 -- ---- calls with a table and a memory
 
-pub other-length : (count : ℕ) (c : Call) (table memory : List ℕ) (a : ℕ) → (length table ≡ tableLength → ⊥) → a ≡ answerOf 1 0 → hostOutcome a table memory ≡ hostOutcomeOf c count (host table memory)
+pub other-length : (count : ℕ) (c : Call) (table memory : List ℕ) (a : ℕ) → (length table ≡ tableLength → ⊥) → a ≡ answerOf 1 0 → hostOutcome a table memory ≡ hostOutcomeOf c count (hostBuffers table memory)
 unfolding hostOutcomeOf hostAfterCall if_then_else_
 other-length count c table memory a h e = rw (ne-eqb (length table) tableLength h, e)
 
@@ -46,15 +46,15 @@ module _ (c : Call) (table memory : List ℕ) (before : Table) (n : ℕ) (after 
   unfolding outcomeOf
   memory-after = ap (λ (o : Outcome). o .after .memory) call-made
 
-  pub call-stored : (count : ℕ) {given : ℕ} (a : ℕ) (b : List ℕ) → count ≡ given → a ≡ answerOf n count → b ≡ bytesAfter n after table → hostOutcome a b left ≡ hostOutcomeOf c given (host table memory)
+  pub call-stored : (count : ℕ) {given : ℕ} (a : ℕ) (b : List ℕ) → count ≡ given → a ≡ answerOf n count → b ≡ tableBytesAfter n after table → hostOutcome a b left ≡ hostOutcomeOf c given (hostBuffers table memory)
   unfolding hostOutcomeOf hostAfterCall if_then_else_
   call-stored count a b few answer stored = rw (eq-eqb (length table) tableLength whole, answer, stored, few, call-refusal, table-after, memory-after)
 
 -- ---- a load
 
 -- the place that is handed on is refused, or taken, as the place of that number
-pub place-same : (x : System) (k n : ℕ) (l : Location) (file : List ℕ) → l .0 ≡ min n 65536 → outcomeOf (change k (load l file)) x ≡ outcomeOf (change k (load (record { 0 = n }) file)) x
-place-same x k n l file e = go (decLt n 65536)
+pub location-same : (x : System) (k n : ℕ) (l : Location) (file : List ℕ) → l .0 ≡ min n 65536 → outcomeOf (change k (load l file)) x ≡ outcomeOf (change k (load (record { 0 = n }) file)) x
+location-same x k n l file e = go (decLt n 65536)
   where
     go : Dec (n < 65536) → outcomeOf (change k (load l file)) x ≡ outcomeOf (change k (load (record { 0 = n }) file)) x
     go (yes p) =
@@ -82,12 +82,12 @@ drained-few x k room = go (eqb (refusal (change k (drain room)) x) 0) refl
 pub decoded-count : (table memory : List ℕ) (k room n : ℕ) (before : Table) → before ≡ tableFromBytes table → n ≡ drainedCount (system before memory) k room → n ≡ drainedCount (lentSystem table memory) k room
 decoded-count table memory k room n before decoded e = e ∙ ap (λ (t : Table). drainedCount (system t memory) k room) decoded
 
-pub buffer-left : (table memory : List ℕ) (k : ℕ) (buffer : List ℕ) → (length table ≡ tableLength → ⊥) → buffer ≡ hostDrained table memory k buffer
-unfolding hostDrained if_then_else_
+pub buffer-left : (table memory : List ℕ) (k : ℕ) (buffer : List ℕ) → (length table ≡ tableLength → ⊥) → buffer ≡ hostDrainedBuffer table memory k buffer
+unfolding hostDrainedBuffer if_then_else_
 buffer-left table memory k buffer h = rw (ne-eqb (length table) tableLength h)
 
-pub buffer-drained : (table memory : List ℕ) (k : ℕ) (buffer b : List ℕ) (before : Table) → length table ≡ tableLength → before ≡ tableFromBytes table → b ≡ drainedBuffer (system before memory) k buffer → b ≡ hostDrained table memory k buffer
-unfolding hostDrained if_then_else_
+pub buffer-drained : (table memory : List ℕ) (k : ℕ) (buffer b : List ℕ) (before : Table) → length table ≡ tableLength → before ≡ tableFromBytes table → b ≡ drainedBuffer (system before memory) k buffer → b ≡ hostDrainedBuffer table memory k buffer
+unfolding hostDrainedBuffer if_then_else_
 buffer-drained table memory k buffer b before whole decoded e = rw (eq-eqb (length table) tableLength whole, e, decoded)
 
 -- ---- a report
@@ -144,6 +144,6 @@ pub new-other : (size : ℕ) (table : List ℕ) (a : ℕ) → (length table ≡ 
 unfolding hostNew if_then_else_
 new-other size table a h e = rw (ne-eqb (length table) tableLength h, e)
 
-pub new-made : (size : ℕ) (table : List ℕ) (a n : ℕ) (t : Table) (b : List ℕ) → length table ≡ tableLength → n ≡ newRefusal size → t ≡ newTable size → a ≡ answerOf n 0 → b ≡ bytesAfter n t table → bufferOutcome a b ≡ hostNew size table
+pub new-made : (size : ℕ) (table : List ℕ) (a n : ℕ) (t : Table) (b : List ℕ) → length table ≡ tableLength → n ≡ newRefusal size → t ≡ newTable size → a ≡ answerOf n 0 → b ≡ tableBytesAfter n t table → bufferOutcome a b ≡ hostNew size table
 unfolding hostNew if_then_else_
 new-made size table a n t b whole call-refusal call-made answer stored = rw (eq-eqb (length table) tableLength whole, answer, stored, call-refusal, call-made)

@@ -25,8 +25,8 @@ abbrev pub lentSystem : List ℕ → List ℕ → System
 lentSystem table memory = system (tableFromBytes table) memory
 
 -- the table's bytes after a call: those of the table that it came to, or left as they are by a refusal
-unfoldable pub bytesAfter : ℕ → Table → List ℕ → List ℕ
-bytesAfter refusal t bytes = if eqb refusal 0 then tableBytes t else bytes
+unfoldable pub tableBytesAfter : ℕ → Table → List ℕ → List ℕ
+tableBytesAfter refusal t bytes = if eqb refusal 0 then tableBytes t else bytes
 
 -- ---- a new table
 
@@ -42,41 +42,41 @@ bufferOutcome answer buffer = record { answer = answer; buffer = buffer }
 unfoldable pub hostNew : ℕ → List ℕ → BufferOutcome
 hostNew size table =
     if eqb (length table) tableLength
-    then bufferOutcome (answerOf (newRefusal size) 0) (bytesAfter (newRefusal size) (newTable size) table)
+    then bufferOutcome (answerOf (newRefusal size) 0) (tableBytesAfter (newRefusal size) (newTable size) table)
     else bufferOutcome (answerOf 1 0) table
 
 -- ---- calls with a table and a memory
 
 -- what a host holds between its calls: the table's bytes and the memory
-pub record Host : Type 0 where
+pub record HostBuffers : Type 0 where
   pub table : List ℕ
   pub memory : List ℕ
 
--- such a host of its parts
-abbrev pub host : List ℕ → List ℕ → Host
-host table memory = record { table = table; memory = memory }
+-- such buffers of their parts
+abbrev pub hostBuffers : List ℕ → List ℕ → HostBuffers
+hostBuffers table memory = record { table = table; memory = memory }
 
--- the table and the memory that these are
-abbrev pub systemOf : Host → System
+-- the system that these buffers hold
+abbrev pub systemOf : HostBuffers → System
 systemOf h = lentSystem (h .table) (h .memory)
 
 -- a buffer of another length is no sound table: 1, and everything is left
-unfoldable pub hostAfterCall : Call → Host → Host
+unfoldable pub hostAfterCall : Call → HostBuffers → HostBuffers
 hostAfterCall c h =
     if eqb (length (h .table)) tableLength
-    then host (bytesAfter (refusal c (systemOf h)) (afterCall c (systemOf h) .table) (h .table)) (afterCall c (systemOf h) .memory)
+    then hostBuffers (tableBytesAfter (refusal c (systemOf h)) (afterCall c (systemOf h) .table) (h .table)) (afterCall c (systemOf h) .memory)
     else h
 
--- what a call answers that hands over so many bytes, and what table and memory hold afterwards
+-- what a call answers, and what table and memory hold afterwards
 pub record HostOutcome : Type 0 where
   pub answer : ℕ
-  pub after : Host
+  pub after : HostBuffers
 
 abbrev pub hostOutcome : ℕ → List ℕ → List ℕ → HostOutcome
-hostOutcome answer table memory = record { answer = answer; after = host table memory }
+hostOutcome answer table memory = record { answer = answer; after = hostBuffers table memory }
 
 -- the answer has the refusal and that count; what is left is `hostAfterCall`
-unfoldable pub hostOutcomeOf : Call → ℕ → Host → HostOutcome
+unfoldable pub hostOutcomeOf : Call → ℕ → HostBuffers → HostOutcome
 hostOutcomeOf c count h =
     record {
       answer = if eqb (length (h .table)) tableLength then answerOf (refusal c (systemOf h)) count else answerOf 1 0;
@@ -84,8 +84,8 @@ hostOutcomeOf c count h =
     }
 
 -- the lent buffer after a drain
-unfoldable pub hostDrained : List ℕ → List ℕ → ℕ → List ℕ → List ℕ
-hostDrained table memory k buffer = if eqb (length table) tableLength then drainedBuffer (lentSystem table memory) k buffer else buffer
+unfoldable pub hostDrainedBuffer : List ℕ → List ℕ → ℕ → List ℕ → List ℕ
+hostDrainedBuffer table memory k buffer = if eqb (length table) tableLength then drainedBuffer (lentSystem table memory) k buffer else buffer
 
 -- ---- a report
 

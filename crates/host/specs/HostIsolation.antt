@@ -13,24 +13,24 @@ use Rattle.supervisor.specs.Events.{Event, call, write, afterEvents, roundsOfEv
 use Rattle.supervisor.specs.Isolation.{LeftAloneThroughout, Isolation}
 use Rattle.supervisor.specs.System.{slotOf, machineIn}
 use Rattle.supervisor.specs.Table.{isEmpty}
-use Rattle.host.specs.HostCalls.{Host, host, systemOf, hostAfterCall}
+use Rattle.host.specs.HostCalls.{HostBuffers, hostBuffers, systemOf, hostAfterCall}
 use Rattle.host.specs.TableEncoding.{tableLength}
 
 -- what a host holds after a call of an entry point that takes the table, or after one byte of the memory is written between two calls. A
 -- query is given the table to read, and no memory. A new table begins another list
-unfoldable pub hostAfterEvent : Event → Host → Host
+unfoldable pub hostAfterEvent : Event → HostBuffers → HostBuffers
 hostAfterEvent (call (change k c)) h = hostAfterCall (change k c) h
 hostAfterEvent (call (run n)) h = hostAfterCall (run n) h
 hostAfterEvent (call (query q)) h = h
-hostAfterEvent (write i b) h = host (h .table) (set (h .memory) i b)
+hostAfterEvent (write i b) h = hostBuffers (h .table) (set (h .memory) i b)
 
 -- and after a list of such events
-unfoldable pub hostAfterEvents : List Event → Host → Host
+unfoldable pub hostAfterEvents : List Event → HostBuffers → HostBuffers
 hostAfterEvents [] h = h
 hostAfterEvents (e ∷ rest) h = hostAfterEvents rest (hostAfterEvent e h)
 
 -- Demand 3, of what a host holds and any list of what it does
-pub record HostIsolation (h : Host) (list : List Event) : Type 0 where
+pub record HostIsolation (h : HostBuffers) (list : List Event) : Type 0 where
   -- after the list, the host's bytes hold the table and the memory that the events lead to
   pub holds : systemOf (hostAfterEvents list h) ≡ afterEvents list (systemOf h)
   -- the table still has its length

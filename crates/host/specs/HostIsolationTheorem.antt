@@ -20,7 +20,7 @@ use Rattle.supervisor.specs.Sound.{tableSound}
 use Rattle.supervisor.specs.IsolationTheorem.{isolation}
 use Rattle.supervisor.specs.declared.table.Slot.{Slot}
 use Rattle.supervisor.specs.declared.table.Table.{Table}
-use Rattle.host.specs.HostCalls.{bytesAfter, Host, systemOf, hostAfterCall}
+use Rattle.host.specs.HostCalls.{tableBytesAfter, HostBuffers, systemOf, hostAfterCall}
 use Rattle.host.specs.HostIsolation.{hostAfterEvent, hostAfterEvents, HostIsolation}
 use Rattle.host.specs.TableEncoding.{tableFromBytes, tableBytes, tableLength}
 use Rattle.encoding.specs.StateRoundTripLaws.{StateShaped}
@@ -83,13 +83,13 @@ accepted-shaped (query q) x h = h
 -- ---- one event
 
 -- a host holds that table and that memory
-record HostHolds (h : Host) (y : System) : Type 0 where
+record HostHolds (h : HostBuffers) (y : System) : Type 0 where
   same : systemOf h ≡ y
   whole : length (h .table) ≡ tableLength
 
 -- by whether the call is accepted
-call-holds : (c : Call) (h : Host) → length (h .table) ≡ tableLength → HostHolds (hostAfterCall c h) (afterCall c (systemOf h))
-unfolding hostAfterCall bytesAfter afterCall if_then_else_
+call-holds : (c : Call) (h : HostBuffers) → length (h .table) ≡ tableLength → HostHolds (hostAfterCall c h) (afterCall c (systemOf h))
+unfolding hostAfterCall tableBytesAfter afterCall if_then_else_
 call-holds c h whole = rw (eq-eqb (length (h .table)) tableLength whole) (go (eqb (refusal c (systemOf h)) 0))
   where
     x : System
@@ -112,7 +112,7 @@ query-leaves q x = go (eqb (refusal (query q) x) 0)
     go true = refl
     go false = refl
 
-event-holds : (e : Event) (h : Host) → length (h .table) ≡ tableLength → HostHolds (hostAfterEvent e h) (afterEvent e (systemOf h))
+event-holds : (e : Event) (h : HostBuffers) → length (h .table) ≡ tableLength → HostHolds (hostAfterEvent e h) (afterEvent e (systemOf h))
 unfolding hostAfterEvent afterEvent
 event-holds (call (change k c)) h whole = call-holds (change k c) h whole
 event-holds (call (run n)) h whole = call-holds (run n) h whole
@@ -121,7 +121,7 @@ event-holds (write i b) h whole = record { same = refl; whole = whole }
 
 -- ---- the list
 
-events-hold : (list : List Event) (h : Host) → length (h .table) ≡ tableLength → HostHolds (hostAfterEvents list h) (afterEvents list (systemOf h))
+events-hold : (list : List Event) (h : HostBuffers) → length (h .table) ≡ tableLength → HostHolds (hostAfterEvents list h) (afterEvents list (systemOf h))
 unfolding hostAfterEvents afterEvents
 events-hold [] h whole = record { same = refl; whole = whole }
 events-hold (e ∷ rest) h whole =
@@ -130,7 +130,7 @@ events-hold (e ∷ rest) h whole =
     record { same = r .same ∙ ap (afterEvents rest) (f .same); whole = r .whole }
 
 -- Demand 3 for hosts.
-pub host-isolation : (h : Host) (list : List Event) → length (h .table) ≡ tableLength → tableSound (tableFromBytes (h .table)) ≡ true
+pub host-isolation : (h : HostBuffers) (list : List Event) → length (h .table) ≡ tableLength → tableSound (tableFromBytes (h .table)) ≡ true
     → length (h .memory) ≡ tableFromBytes (h .table) .size → HostIsolation h list
 host-isolation h list whole ok fits =
     let f = events-hold list h whole in

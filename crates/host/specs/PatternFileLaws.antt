@@ -7,7 +7,7 @@ use lib.ListN.{length}
 use Rattle.pattern.specs.Frame.{bodyOf}
 use Rattle.pattern.specs.Image.{trim}
 use Rattle.pattern.specs.ImageLaws.{trim-short}
-use Rattle.pattern.specs.Reader.{readOf, ifAccepted, codeOf, inputOf, codeOffset, inputOffset, fromCode, fromInput}
+use Rattle.pattern.specs.Reader.{readOf, ifAccepted, codeBodyOf, inputBodyOf, codeOffset, inputOffset, fromCode, fromInput}
 use Rattle.pattern.specs.ReaderLaws.{code-fits, input-fits, read-ranges, code-at, input-at, code-offset-is, input-offset-is}
 use Rattle.pattern.specs.Parameters.{formOf}
 use Rattle.pattern.specs.ParameterLaws.{range-fact}
@@ -16,7 +16,7 @@ use Rattle.pattern.specs.WriterLaws.{accepted-written, file-length}
 use Rattle.pattern.specs.declared.reader.ReadResult.{ReadResult}
 use Rattle.pattern.specs.declared.reader.ReadResult.the-variants.{Accepted, Refused}
 use Rattle.pattern.specs.declared.parameters.Parameters.{Parameters}
-use Rattle.pattern.specs.declared.writer.WriteResult.the-variants.{Length}
+use Rattle.pattern.specs.declared.writer.WriteResult.the-variants.{Written}
 use Rattle.slices.specs.Slices.{partOf}
 use Rattle.host.specs.PatternFiles.{stretchOf, ifRead, codeStretch, inputStretch}
 
@@ -31,11 +31,11 @@ stretch-parts file offset n h =
     rw (d, m)
 
 module _ (file : List ℕ) (v : Parameters) (accepted : readOf file ≡ Accepted v) where
-  -- the bodies' lengths and places have two bytes
-  pub code-few : length (codeOf file) ≤ 32768
+  -- the bodies' lengths and offsets have two bytes
+  pub code-few : length (codeBodyOf file) ≤ 32768
   code-few = omega (arith, code-fits file v accepted, read-ranges file v accepted)
 
-  pub input-few : length (inputOf file) ≤ 4096
+  pub input-few : length (inputBodyOf file) ≤ 4096
   input-few = omega (arith, input-fits file v accepted, read-ranges file v accepted)
 
   pub code-offset-few : codeOffset file < 65536
@@ -45,55 +45,55 @@ module _ (file : List ℕ) (v : Parameters) (accepted : readOf file ≡ Accepted
   input-offset-few = omega (arith, input-offset-is file v accepted, code-offset-is file v accepted, code-few)
 
   -- what an accepted file's stretches are
-  pub code-accepted : codeStretch file ≡ stretchOf (codeOffset file) (length (codeOf file))
+  pub code-accepted : codeStretch file ≡ stretchOf (codeOffset file) (length (codeBodyOf file))
   unfolding codeStretch
-  code-accepted = ap (λ (a : ReadResult). ifRead a (stretchOf (codeOffset file) (length (codeOf file)))) accepted
+  code-accepted = ap (λ (a : ReadResult). ifRead a (stretchOf (codeOffset file) (length (codeBodyOf file)))) accepted
 
-  pub input-accepted : inputStretch file ≡ stretchOf (inputOffset file) (length (inputOf file))
+  pub input-accepted : inputStretch file ≡ stretchOf (inputOffset file) (length (inputBodyOf file))
   unfolding inputStretch
-  input-accepted = ap (λ (a : ReadResult). ifRead a (stretchOf (inputOffset file) (length (inputOf file)))) accepted
+  input-accepted = ap (λ (a : ReadResult). ifRead a (stretchOf (inputOffset file) (length (inputBodyOf file)))) accepted
 
 -- a refused file's are empty
 module _ (file : List ℕ) (n : ℕ) (refused : readOf file ≡ Refused n) where
   pub code-refused : codeStretch file ≡ 0
   unfolding codeStretch
-  code-refused = ap (λ (a : ReadResult). ifRead a (stretchOf (codeOffset file) (length (codeOf file)))) refused
+  code-refused = ap (λ (a : ReadResult). ifRead a (stretchOf (codeOffset file) (length (codeBodyOf file)))) refused
 
   pub input-refused : inputStretch file ≡ 0
   unfolding inputStretch
-  input-refused = ap (λ (a : ReadResult). ifRead a (stretchOf (inputOffset file) (length (inputOf file)))) refused
+  input-refused = ap (λ (a : ReadResult). ifRead a (stretchOf (inputOffset file) (length (inputBodyOf file)))) refused
 
-  no-code : codeOf file ≡ []
-  unfolding codeOf
+  no-code : codeBodyOf file ≡ []
+  unfolding codeBodyOf
   no-code = ap (λ (a : ReadResult). ifAccepted a (bodyOf (fromCode file))) refused
 
-  no-input : inputOf file ≡ []
-  unfolding inputOf
+  no-input : inputBodyOf file ≡ []
+  unfolding inputBodyOf
   no-input = ap (λ (a : ReadResult). ifAccepted a (bodyOf (fromInput file))) refused
 
 -- whatever the file, the stretch that a host is answered is the body
-pub code-stretch : (file : List ℕ) → stretchIn file (codeStretch file) ≡ codeOf file
+pub code-stretch : (file : List ℕ) → stretchIn file (codeStretch file) ≡ codeBodyOf file
 code-stretch file = go (readOf file) refl
   where
-    go : (a : ReadResult) → readOf file ≡ a → stretchIn file (codeStretch file) ≡ codeOf file
+    go : (a : ReadResult) → readOf file ≡ a → stretchIn file (codeStretch file) ≡ codeBodyOf file
     go (Refused n) e = ap (stretchIn file) (code-refused file n e) ∙ sym (no-code file n e)
     go (Accepted v) e =
         ap (stretchIn file) (code-accepted file v e)
-        ∙ stretch-parts file (codeOffset file) (length (codeOf file)) (omega (arith, code-few file v e))
+        ∙ stretch-parts file (codeOffset file) (length (codeBodyOf file)) (omega (arith, code-few file v e))
         ∙ code-at file v e
 
-pub input-stretch : (file : List ℕ) → stretchIn file (inputStretch file) ≡ inputOf file
+pub input-stretch : (file : List ℕ) → stretchIn file (inputStretch file) ≡ inputBodyOf file
 input-stretch file = go (readOf file) refl
   where
-    go : (a : ReadResult) → readOf file ≡ a → stretchIn file (inputStretch file) ≡ inputOf file
+    go : (a : ReadResult) → readOf file ≡ a → stretchIn file (inputStretch file) ≡ inputBodyOf file
     go (Refused n) e = ap (stretchIn file) (input-refused file n e) ∙ sym (no-input file n e)
     go (Accepted v) e =
         ap (stretchIn file) (input-accepted file v e)
-        ∙ stretch-parts file (inputOffset file) (length (inputOf file)) (omega (arith, input-few file v e))
+        ∙ stretch-parts file (inputOffset file) (length (inputBodyOf file)) (omega (arith, input-few file v e))
         ∙ input-at file v e
 
 -- a written file's length has two bytes
-pub file-few : (v : Parameters) (image input : List ℕ) (room n : ℕ) → writeOf v image input room ≡ Length n → n < 65536
+pub file-few : (v : Parameters) (image input : List ℕ) (room n : ℕ) → writeOf v image input room ≡ Written n → n < 65536
 file-few v image input room n h =
     let w = accepted-written v image input room n h in
     let r = range-fact v (w .0 .range) in

@@ -1,11 +1,11 @@
 -- Definitions that must be believed: what a host's calls on pattern files answer, and what they leave in the buffer that the host lends.
--- Reading and writing are crate pattern's `readOf`, `codeOf`, `inputOf`, `writeOf` and `writtenBuffer`.
+-- Reading and writing are crate pattern's `readOf`, `codeBodyOf`, `inputBodyOf`, `writeOf` and `writtenBuffer`.
 use mathlib.Core.List.{List, _++_}
 use Prim.Native.Nat.{ℕ, _+_, _*_}
 use lib.Dec.{eqb, ltb}
 use lib.ListN.{length, drop}
 use Rattle.common.specs.Choice.{if_then_else_}
-use Rattle.pattern.specs.Reader.{readOf, codeOf, inputOf, codeOffset, inputOffset}
+use Rattle.pattern.specs.Reader.{readOf, codeBodyOf, inputBodyOf, codeOffset, inputOffset}
 use Rattle.pattern.specs.Parameters.{formOf, parametersLength, parametersBytes, parametersFromBytes}
 use Rattle.pattern.specs.Writer.{writeOf, writtenBuffer}
 use Rattle.pattern.specs.declared.reader.ReadResult.{ReadResult}
@@ -35,16 +35,16 @@ ifRead (Refused n) stretch = 0
 
 -- where the bodies of `PC` and `PI` lie
 unfoldable pub codeStretch : List ℕ → ℕ
-codeStretch file = ifRead (readOf file) (stretchOf (codeOffset file) (length (codeOf file)))
+codeStretch file = ifRead (readOf file) (stretchOf (codeOffset file) (length (codeBodyOf file)))
 
 unfoldable pub inputStretch : List ℕ → ℕ
-inputStretch file = ifRead (readOf file) (stretchOf (inputOffset file) (length (inputOf file)))
+inputStretch file = ifRead (readOf file) (stretchOf (inputOffset file) (length (inputBodyOf file)))
 
 -- ---- writing
 
 -- the count is the file's length
 abbrev pub writtenAnswer : WriteResult → ℕ
-writtenAnswer (written.Length n) = answerOf 0 n
+writtenAnswer (written.Written n) = answerOf 0 n
 writtenAnswer (written.Refused n) = answerOf n 0
 
 -- the parameters come as the body of `PB`; one of another length is out of range

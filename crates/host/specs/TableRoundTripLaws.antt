@@ -8,9 +8,9 @@ use lib.ListN.{length, take, drop, length-append, length-drop, take-append-drop}
 use lib.Seq.{take-at, drop-at, drop-drop, length-take-le}
 use Rattle.slices.specs.SliceLaws.{bytes-take, bytes-drop}
 use Rattle.slices.specs.Numbers.{u32Bytes, u32At}
-use Rattle.slices.specs.NumberLaws.{u16-back, u32-back, u16-again, u32-again}
+use Rattle.slices.specs.NumberLaws.{u16-decoded, u32-decoded, u16-encoded, u32-encoded}
 use Rattle.slices.specs.PieceLaws.{part-tabulated, parts-concat}
-use Rattle.slices.specs.Slices.{Bytes, partOf, concat, tabulate}
+use Rattle.slices.specs.Slices.{AllBytes, partOf, concat, tabulate}
 use Rattle.supervisor.specs.declared.table.Partition.{Partition}
 use Rattle.supervisor.specs.declared.table.Slot.{Slot}
 use Rattle.supervisor.specs.declared.table.Table.{Table}
@@ -43,12 +43,12 @@ unfolding partitionFromBytes partitionBytes
 partition-decoded p rest =
     λ j.
     record {
-      base = record { 0 = u32-back (p .base .0) [] j };
+      base = record { 0 = u32-decoded (p .base .0) [] j };
       layout =
           record {
-            window = u16-back (p .layout .window) [] j;
-            input = u16-back (p .layout .input) [] j;
-            output = u16-back (p .layout .output) [] j;
+            window = u16-decoded (p .layout .window) [] j;
+            input = u16-decoded (p .layout .input) [] j;
+            output = u16-decoded (p .layout .output) [] j;
           };
       quantum = p .quantum;
     }
@@ -62,21 +62,21 @@ slot-decoded s h =
     in
     λ j. record { partition = p j; state = z j }
 
-partition-encoded : (l : List ℕ) → partitionLength ≤ length l → Bytes l → partitionBytes (partitionFromBytes l) ≡ take partitionLength l
+partition-encoded : (l : List ℕ) → partitionLength ≤ length l → AllBytes l → partitionBytes (partitionFromBytes l) ≡ take partitionLength l
 unfolding partitionBytes partitionFromBytes
 partition-encoded l h small =
     (λ j.
     concat (
-    u32-again l small 0 (omega arith) j
-    ∷ u16-again l small 4 (omega arith) j
-    ∷ u16-again l small 6 (omega arith) j
-    ∷ u16-again l small 8 (omega arith) j
+    u32-encoded l small 0 (omega arith) j
+    ∷ u16-encoded l small 4 (omega arith) j
+    ∷ u16-encoded l small 6 (omega arith) j
+    ∷ u16-encoded l small 8 (omega arith) j
     ∷ part-tabulated 1 l 10 (omega arith) j
     ∷ []
     ))
     ∙ parts-concat l 0 (4 ∷ 2 ∷ 2 ∷ 2 ∷ 1 ∷ [])
 
-slot-encoded : (l : List ℕ) → length l ≡ slotLength → Bytes l → slotBytes (slotFromBytes l) ≡ l
+slot-encoded : (l : List ℕ) → length l ≡ slotLength → AllBytes l → slotBytes (slotFromBytes l) ≡ l
 unfolding slotBytes slotFromBytes
 slot-encoded l h small =
     let r : length (drop partitionLength l) ≡ stateLength = length-drop partitionLength l ∙ (omega arith) in
@@ -97,9 +97,9 @@ slots-behind n at l = λ j. tabulate n (λ k. slotFromBytes (take slotLength (sy
 -- the first slot, and the others
 slots-more : (n : ℕ) (l : List ℕ) → slotsIn (suc n) l ≡ slotFromBytes (take slotLength l) ∷ slotsIn n (drop slotLength l)
 slots-more n l =
-    let place : (k : ℕ) → slotLength * suc k ≡ slotLength + slotLength * k = λ k. omega arith in
+    let location : (k : ℕ) → slotLength * suc k ≡ slotLength + slotLength * k = λ k. omega arith in
     let others : tabulate n (λ k. slotFromBytes (partOf l (slotLength * suc k) slotLength)) ≡ slotsIn n (drop slotLength l) =
-    (λ j. tabulate n (λ k. slotFromBytes (partOf l (place k j) slotLength))) ∙ slots-behind n slotLength l
+    (λ j. tabulate n (λ k. slotFromBytes (partOf l (location k j) slotLength))) ∙ slots-behind n slotLength l
     in
     ap (λ (ss : List Slot). slotFromBytes (take slotLength l) ∷ ss) others
 
@@ -120,7 +120,7 @@ slots-decoded (s ∷ ss) h =
     in
     slots-more (length ss) (slotBytes s ++ concat (map slotBytes ss)) ∙ (λ j. first j ∷ others j)
 
-slots-encoded : (n : ℕ) (l : List ℕ) → length l ≡ slotLength * n → Bytes l → concat (map slotBytes (slotsIn n l)) ≡ l
+slots-encoded : (n : ℕ) (l : List ℕ) → length l ≡ slotLength * n → AllBytes l → concat (map slotBytes (slotsIn n l)) ≡ l
 slots-encoded zero [] h small = refl
 slots-encoded zero (x ∷ xs) h small = absurd (omega arith)
 slots-encoded (suc n) l h small =
@@ -154,13 +154,13 @@ table-decoded t h =
     ∙ ap (λ (k : ℕ). slotsIn k l) (sym (h .eight))
     ∙ slots-decoded (t .slots) (h .all)
     in
-    λ j. record { size = u32-back (t .size) [] j; slots = ss j }
+    λ j. record { size = u32-decoded (t .size) [] j; slots = ss j }
 
 -- so many bytes are those of the table that they hold
-pub table-encoded : (l : List ℕ) → length l ≡ tableLength → Bytes l → tableBytes (tableFromBytes l) ≡ l
+pub table-encoded : (l : List ℕ) → length l ≡ tableLength → AllBytes l → tableBytes (tableFromBytes l) ≡ l
 unfolding tableFromBytes tableBytes
 table-encoded l h small =
-    let first : u32Bytes (u32At l 0) ≡ take slotsOffset l = u32-again l small 0 (omega arith) in
+    let first : u32Bytes (u32At l 0) ≡ take slotsOffset l = u32-encoded l small 0 (omega arith) in
     let others : concat (map slotBytes (tabulate 8 (λ k. slotFromBytes (partOf l (slotsOffset + slotLength * k) slotLength)))) ≡ drop slotsOffset l =
     ap (λ (ss : List Slot). concat (map slotBytes ss)) (slots-behind 8 slotsOffset l)
     ∙ slots-encoded 8 (drop slotsOffset l) (length-drop slotsOffset l ∙ (omega arith)) (bytes-drop slotsOffset l small)
@@ -176,5 +176,5 @@ table-shaped l = record { eight = refl; all = slots-shaped 8 (λ k. partOf l (sl
 pub table-once : (t u : Table) → TableShaped t → TableShaped u → tableBytes t ≡ tableBytes u → t ≡ u
 table-once t u h k e = sym (table-decoded t h) ∙ ap tableFromBytes e ∙ table-decoded u k
 
-pub bytes-once : (l m : List ℕ) → length l ≡ tableLength → length m ≡ tableLength → Bytes l → Bytes m → tableFromBytes l ≡ tableFromBytes m → l ≡ m
+pub bytes-once : (l m : List ℕ) → length l ≡ tableLength → length m ≡ tableLength → AllBytes l → AllBytes m → tableFromBytes l ≡ tableFromBytes m → l ≡ m
 bytes-once l m h k small few e = sym (table-encoded l h small) ∙ ap tableBytes e ∙ table-encoded m k few

@@ -5,10 +5,10 @@ ghost use lib.ListN.{length};
 ghost use Rattle.supervisor.specs.Calls as calls;
 ghost use Rattle.supervisor.specs.Calls.{drainedCount};
 ghost use Rattle.host.specs.TableEncoding.{tableLength};
-ghost use Rattle.host.specs.HostCalls.{answerOf, bufferOutcome, bytesAfter, host, hostOutcome, hostDrained, hostNew, hostOutcomeOf, hostReport, lentSystem, reportBytes};
+ghost use Rattle.host.specs.HostCalls.{answerOf, bufferOutcome, tableBytesAfter, hostBuffers, hostOutcome, hostDrainedBuffer, hostNew, hostOutcomeOf, hostReport, lentSystem, reportBytes};
 use crate::table_encoding::TABLE_LENGTH;
 use crate::table_encoding::decode_table;
-use crate::table_encoding::encode_table;
+use crate::table_encoding::put_table;
 use common::Location;
 use supervisor::Report;
 use supervisor::Table;
@@ -26,10 +26,10 @@ pub(crate) fn answer(refusal: u8, count: u16) -> u32
 // Writes the table's bytes anew where the call was accepted.
 fn store_accepted(bytes: &mut [u8], refusal: u8, table: Table)
     requires { ⌜ length (now bytes) ≡ tableLength ⌝ }
-    ensures { λ _. ⌜ now (bytes .exit) ≡ bytesAfter refusal table (now (bytes .entry)) ⌝ }
+    ensures { λ _. ⌜ now (bytes .exit) ≡ tableBytesAfter refusal table (now (bytes .entry)) ⌝ }
 {
     if refusal == 0 {
-        encode_table(bytes, table);
+        put_table(bytes, table);
     }
 }
 
@@ -48,7 +48,7 @@ pub extern "C" fn pf_new(table: &mut [u8], length: usize) -> u32
     answer(refusal, 0)
 }
 
-// The place of that number. Every place from the longest memory's length on is refused alike, so one stands for all of them.
+// The location of that number. Every location from the longest memory's length on is refused alike, so one stands for all of them.
 fn clamp_location(location: usize) -> Location
     ensures { λ l. ⌜ l .0 ≡ min location 65536 ⌝ }
 {
@@ -68,7 +68,7 @@ pub extern "C" fn pf_load(
     location: usize,
     file: &[u8],
 ) -> u32
-    ensures { λ r. ⌜ hostOutcome r (now (table .exit)) (now (memory .exit)) ≡ hostOutcomeOf (calls.change slot (calls.load (record { 0 = location }) (now (file .entry)))) 0 (host (now (table .entry)) (now (memory .entry))) ⌝ }
+    ensures { λ r. ⌜ hostOutcome r (now (table .exit)) (now (memory .exit)) ≡ hostOutcomeOf (calls.change slot (calls.load (record { 0 = location }) (now (file .entry)))) 0 (hostBuffers (now (table .entry)) (now (memory .entry))) ⌝ }
 {
     if table.len() != TABLE_LENGTH {
         return answer(1, 0);
@@ -84,7 +84,7 @@ pub extern "C" fn pf_load(
 // Empties a slot, and sets its partition's bytes to zero.
 #[no_mangle]
 pub extern "C" fn pf_unload(table: &mut [u8], memory: &mut [u8], slot: usize) -> u32
-    ensures { λ r. ⌜ hostOutcome r (now (table .exit)) (now (memory .exit)) ≡ hostOutcomeOf (calls.change slot calls.unload) 0 (host (now (table .entry)) (now (memory .entry))) ⌝ }
+    ensures { λ r. ⌜ hostOutcome r (now (table .exit)) (now (memory .exit)) ≡ hostOutcomeOf (calls.change slot calls.unload) 0 (hostBuffers (now (table .entry)) (now (memory .entry))) ⌝ }
 {
     if table.len() != TABLE_LENGTH {
         return answer(1, 0);
@@ -100,7 +100,7 @@ pub extern "C" fn pf_unload(table: &mut [u8], memory: &mut [u8], slot: usize) ->
 // Gives a pattern new input.
 #[no_mangle]
 pub extern "C" fn pf_feed(table: &mut [u8], memory: &mut [u8], slot: usize, input: &[u8]) -> u32
-    ensures { λ r. ⌜ hostOutcome r (now (table .exit)) (now (memory .exit)) ≡ hostOutcomeOf (calls.change slot (calls.feed (now (input .entry)))) 0 (host (now (table .entry)) (now (memory .entry))) ⌝ }
+    ensures { λ r. ⌜ hostOutcome r (now (table .exit)) (now (memory .exit)) ≡ hostOutcomeOf (calls.change slot (calls.feed (now (input .entry)))) 0 (hostBuffers (now (table .entry)) (now (memory .entry))) ⌝ }
 {
     if table.len() != TABLE_LENGTH {
         return answer(1, 0);
@@ -116,8 +116,8 @@ pub extern "C" fn pf_feed(table: &mut [u8], memory: &mut [u8], slot: usize, inpu
 // Takes what a pattern has put out to the buffer's front. The count is how many bytes.
 #[no_mangle]
 pub extern "C" fn pf_drain(table: &mut [u8], memory: &[u8], slot: usize, buffer: &mut [u8]) -> u32
-    ensures { λ r. ⌜ hostOutcome r (now (table .exit)) (now (memory .entry)) ≡ hostOutcomeOf (calls.change slot (calls.drain (length (now (buffer .entry))))) (drainedCount (lentSystem (now (table .entry)) (now (memory .entry))) slot (length (now (buffer .entry)))) (host (now (table .entry)) (now (memory .entry))) ⌝ }
-    ensures { λ _. ⌜ now (buffer .exit) ≡ hostDrained (now (table .entry)) (now (memory .entry)) slot (now (buffer .entry)) ⌝ }
+    ensures { λ r. ⌜ hostOutcome r (now (table .exit)) (now (memory .entry)) ≡ hostOutcomeOf (calls.change slot (calls.drain (length (now (buffer .entry))))) (drainedCount (lentSystem (now (table .entry)) (now (memory .entry))) slot (length (now (buffer .entry)))) (hostBuffers (now (table .entry)) (now (memory .entry))) ⌝ }
+    ensures { λ _. ⌜ now (buffer .exit) ≡ hostDrainedBuffer (now (table .entry)) (now (memory .entry)) slot (now (buffer .entry)) ⌝ }
 {
     if table.len() != TABLE_LENGTH {
         return answer(1, 0);
@@ -133,7 +133,7 @@ pub extern "C" fn pf_drain(table: &mut [u8], memory: &[u8], slot: usize, buffer:
 // Makes so many rounds.
 #[no_mangle]
 pub extern "C" fn pf_run(table: &mut [u8], memory: &mut [u8], rounds: u16) -> u32
-    ensures { λ r. ⌜ hostOutcome r (now (table .exit)) (now (memory .exit)) ≡ hostOutcomeOf (calls.run rounds) 0 (host (now (table .entry)) (now (memory .entry))) ⌝ }
+    ensures { λ r. ⌜ hostOutcome r (now (table .exit)) (now (memory .exit)) ≡ hostOutcomeOf (calls.run rounds) 0 (hostBuffers (now (table .entry)) (now (memory .entry))) ⌝ }
 {
     if table.len() != TABLE_LENGTH {
         return answer(1, 0);
@@ -146,7 +146,7 @@ pub extern "C" fn pf_run(table: &mut [u8], memory: &mut [u8], rounds: u16) -> u3
     answer(refusal, 0)
 }
 
-fn report_bytes(r: Report) -> [u8; REPORT_LENGTH]
+fn encode_report(r: Report) -> [u8; REPORT_LENGTH]
     ensures { λ l. ⌜ l ≡ reportBytes r ⌝ }
 {
     let registers = r.registers;
@@ -182,7 +182,7 @@ pub extern "C" fn pf_report(table: &[u8], slot: usize, report: &mut [u8]) -> u32
     if report.len() < REPORT_LENGTH {
         return answer(16, 0);
     }
-    let bytes = report_bytes(made);
+    let bytes = encode_report(made);
     slices::copy(report, 0, &bytes);
     answer(0, 0)
 }

@@ -65,7 +65,7 @@ pub extern "C" fn pf_write(parameters: &[u8], image: &[u8], input: &[u8], buffer
     }
     let written = pattern::write(pattern::decode_parameters(parameters), image, input, buffer);
     match written {
-        pattern::WriteResult::Length(n) => answer(0, n as u16),
+        pattern::WriteResult::Written(n) => answer(0, n as u16),
         pattern::WriteResult::Refused(refusal) => answer(refusal, 0),
     }
 }

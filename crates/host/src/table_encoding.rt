@@ -45,7 +45,7 @@ fn decode_partition(bytes: &[u8]) -> Partition
     }
 }
 
-// The slot whose bytes start at a place.
+// The slot whose bytes start at an offset.
 fn decode_slot(bytes: &[u8], at: usize) -> Slot
     ensures { λ s. ⌜ s ≡ slotFromBytes (partOf (now (bytes .entry)) at slotLength) ⌝ }
 {
@@ -69,7 +69,7 @@ pub(crate) fn decode_table(bytes: &[u8]) -> Table
     Table { size, slots }
 }
 
-// Writes a partition's bytes at a place.
+// Writes a partition's bytes at an offset.
 fn put_partition(bytes: &mut [u8], at: usize, partition: Partition)
     requires { ⌜ at + partitionLength ≤ length (now bytes) ⌝ }
     ensures { λ _. ⌜ now (bytes .exit) ≡ copied (now (bytes .entry)) at (partitionBytes partition) ⌝ }
@@ -83,7 +83,7 @@ fn put_partition(bytes: &mut [u8], at: usize, partition: Partition)
     put_byte(bytes, at + 10, partition.quantum);
 }
 
-// Writes a slot's bytes at a place.
+// Writes a slot's bytes at an offset.
 fn put_slot(bytes: &mut [u8], at: usize, slot: Slot)
     requires { ⌜ at + slotLength ≤ length (now bytes) ⌝ }
     ensures { λ _. ⌜ now (bytes .exit) ≡ copied (now (bytes .entry)) at (slotBytes slot) ⌝ }
@@ -96,7 +96,7 @@ fn put_slot(bytes: &mut [u8], at: usize, slot: Slot)
     copy(bytes, at + PARTITION_LENGTH, &own);
 }
 
-pub(crate) fn encode_table(bytes: &mut [u8], table: Table)
+pub(crate) fn put_table(bytes: &mut [u8], table: Table)
     requires { ⌜ length (now bytes) ≡ tableLength ⌝ }
     ensures { λ _. ⌜ now (bytes .exit) ≡ tableBytes table ⌝ }
 {

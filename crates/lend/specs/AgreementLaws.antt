@@ -9,8 +9,8 @@ use borrow.Author.Tests.{eq-eqb, eqb-true, le-ltb}
 use lib.Dec.{eqb}
 use lib.ListN.{length}
 use lib.Seq.{set-getD}
-use Rattle.common.specs.TestLaws.{and-test, within-test}
-use Rattle.common.specs.Ranges.{isWithin}
+use Rattle.common.specs.TestLaws.{and-test, one-to-test}
+use Rattle.common.specs.Ranges.{isOneTo}
 use Rattle.slices.specs.SliceLaws.{copied-none}
 use Rattle.supervisor.specs.Calls.{change, drain, refusal, outcome, outcomeOf, drainedCount, drainedBuffer}
 use Rattle.supervisor.specs.System.{System, system}
@@ -19,7 +19,7 @@ use Rattle.supervisor.specs.Table.{slotAt, withSlot}
 use Rattle.supervisor.specs.Sound.{slotSound, tableSound}
 use Rattle.supervisor.specs.declared.table.Slot.{Slot}
 use Rattle.supervisor.specs.declared.table.Table.{Table}
-use Rattle.lend.specs.Lent.{LentOutcome, lentRefusal, drainSlotOf}
+use Rattle.lend.specs.Lent.{LentOutcome, drainSlotRefusal, drainSlotOf}
 use Rattle.supervisor.specs.CallDefinitions.{refusal-definitions, drain-definitions}
 
 -- an outcome over slot k of a table, its slot put back, is what a call of `drain` at k answers and leaves: the three equations of its
@@ -37,16 +37,16 @@ module _ (t : Table) (memory : List ℕ) (k : ℕ) (buffer : List ℕ) where
   tableSystem = system t memory
 
   -- both are refused alike
-  same-refusal : tableSound t ≡ true → length memory ≡ t .size → k < 8 → refusal (change k (drain (length buffer))) tableSystem ≡ lentRefusal tableSlot (length memory) (length buffer)
-  unfolding refusal-definitions lentRefusal
+  same-refusal : tableSound t ≡ true → length memory ≡ t .size → k < 8 → refusal (change k (drain (length buffer))) tableSystem ≡ drainSlotRefusal tableSlot (length memory) (length buffer)
+  unfolding refusal-definitions drainSlotRefusal
   same-refusal h e q =
       let f = table-fact t h in
-      let own : (isWithin (length memory) 65536 && slotSound (length memory) tableSlot) ≡ true =
-      ap (λ (n : ℕ). isWithin n 65536 && slotSound n tableSlot) e ∙ and-test _ _ (within-test (t .size) 65536 (f .size)) (f .each k q) in
+      let own : (isOneTo (length memory) 65536 && slotSound (length memory) tableSlot) ≡ true =
+      ap (λ (n : ℕ). isOneTo n 65536 && slotSound n tableSlot) e ∙ and-test _ _ (one-to-test (t .size) 65536 (f .size)) (f .each k q) in
       rw (h, eq-eqb _ _ e, le-ltb 7 k (omega arith), own)
 
   -- at one number, both outcomes
-  agrees-by-test : (n : ℕ) (b : Bool) → refusal (change k (drain (length buffer))) tableSystem ≡ n → lentRefusal tableSlot (length memory) (length buffer) ≡ n → eqb n 0 ≡ b → AsDrained t memory k buffer (drainSlotOf tableSlot memory buffer)
+  agrees-by-test : (n : ℕ) (b : Bool) → refusal (change k (drain (length buffer))) tableSystem ≡ n → drainSlotRefusal tableSlot (length memory) (length buffer) ≡ n → eqb n 0 ≡ b → AsDrained t memory k buffer (drainSlotOf tableSlot memory buffer)
   unfolding drain-definitions drainSlotOf
   agrees-by-test n true d l z = record { table = rw (d, l, z, eqb-true n 0 z, copied-none); count = rw (d, l, z); bytes = rw (d, l, z) }
   agrees-by-test n false d l z =

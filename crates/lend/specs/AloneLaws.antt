@@ -10,20 +10,20 @@ use lib.Dec.{eqb, leb}
 use lib.ListN.{length, drop}
 use Rattle.common.specs.Choice.{if_then_else_}
 use Rattle.common.specs.TestLaws.{and-true, or-left, or-right}
-use Rattle.common.specs.Ranges.{isWithin}
-use Rattle.common.specs.Tests.{allAfter, allBelow}
+use Rattle.common.specs.Ranges.{isOneTo}
+use Rattle.common.specs.Tests.{andAll, allBelow}
 use Rattle.supervisor.specs.ChangeLaws.{empty-sound}
 use Rattle.supervisor.specs.Calls.{Outcome, change, drain, refusal, outcome, outcomeOf, drainedCount, drainedBuffer}
 use Rattle.supervisor.specs.System.{System, system, patched}
 use Rattle.supervisor.specs.Table.{emptySlot, emptyTable, newRefusal, newTable, partitionEnd, slotAt, withSlot, slotWithState}
 use Rattle.supervisor.specs.Draining.{drainedState, drainPatch, writtenBytes}
-use Rattle.supervisor.specs.Sound.{slotSound, areApart, clearOfOthers, tableSound}
+use Rattle.supervisor.specs.Sound.{slotSound, areApart, isClearOfOthers, tableSound}
 use Rattle.supervisor.specs.declared.table.Partition.{Partition}
 use Rattle.supervisor.specs.declared.table.Slot.{Slot}
 use Rattle.supervisor.specs.declared.table.Table.{Table}
-use Rattle.lend.specs.Lent.{lentOutcome, lentRefusal, drainSlotOf}
+use Rattle.lend.specs.Lent.{lentOutcome, drainSlotRefusal, drainSlotOf}
 use Rattle.supervisor.specs.CallDefinitions.{refusal-definitions}
-use Rattle.common.specs.RefusalDefinitions.{condition-definitions}
+use Rattle.common.specs.ConditionDefinitions.{condition-definitions}
 use Rattle.supervisor.specs.CallDefinitions.{drain-definitions}
 
 -- a table of seven empty slots behind this one
@@ -40,21 +40,21 @@ unfolding areApart emptySlot
 empty-apart-right p = or-right (leb (partitionEnd p) 0) _ (le-leb 0 (p .base .0) (omega arith))
 
 -- it is sound exactly if its size is in range and the slot is sound by itself
-pub alone-sound : (size : ℕ) (s : Slot) → tableSound (aloneTable size s) ≡ (isWithin size 65536 && slotSound size s)
-unfolding tableSound withSlot slotAt allAfter allBelow clearOfOthers
+pub alone-sound : (size : ℕ) (s : Slot) → tableSound (aloneTable size s) ≡ (isOneTo size 65536 && slotSound size s)
+unfolding tableSound withSlot slotAt andAll allBelow isClearOfOthers
 alone-sound size s = simp (empty-sound size, empty-apart-left, empty-apart-right, and-true)
 
 -- so draining there is refused as draining the slot is
-pub alone-refusal : (s : Slot) (memory : List ℕ) (room : ℕ) → refusal (change 0 (drain room)) (system (aloneTable (length memory) s) memory) ≡ lentRefusal s (length memory) room
-unfolding refusal-definitions lentRefusal withSlot slotAt
+pub alone-refusal : (s : Slot) (memory : List ℕ) (room : ℕ) → refusal (change 0 (drain room)) (system (aloneTable (length memory) s) memory) ≡ drainSlotRefusal s (length memory) room
+unfolding refusal-definitions drainSlotRefusal withSlot slotAt
 alone-refusal s memory room = rw (alone-sound (length memory) s, eq-eqb (length memory) _ refl)
 
 -- a memory whose length is out of range refuses the slot by 1
 pub not-new : (s : Slot) (memory buffer : List ℕ) → newRefusal (length memory) ≢ 0 → lentOutcome (record { refusal = 1; count = 0 }) s buffer ≡ drainSlotOf s memory buffer
-unfolding condition-definitions newRefusal drainSlotOf lentRefusal
-not-new s memory buffer h = alone-by-test (isWithin (length memory) 65536) refl
+unfolding condition-definitions newRefusal drainSlotOf drainSlotRefusal
+not-new s memory buffer h = alone-by-test (isOneTo (length memory) 65536) refl
   where
-    alone-by-test : (b : Bool) → isWithin (length memory) 65536 ≡ b → lentOutcome (record { refusal = 1; count = 0 }) s buffer ≡ drainSlotOf s memory buffer
+    alone-by-test : (b : Bool) → isOneTo (length memory) 65536 ≡ b → lentOutcome (record { refusal = 1; count = 0 }) s buffer ≡ drainSlotOf s memory buffer
     alone-by-test true e = absurd (h (rw e))
     alone-by-test false e = rw e
 
@@ -94,7 +94,7 @@ module _ (s : Slot) (memory buffer : List ℕ) where
       (drainedBuffer aloneSystem 0 buffer)
       ≡ drainSlotOf s memory buffer
   unfolding drain-definitions drainSlotOf
-  alone-drained = rw (alone-refusal s memory (length buffer)) (alone-by-test (lentRefusal s (length memory) (length buffer)) _ refl)
+  alone-drained = rw (alone-refusal s memory (length buffer)) (alone-by-test (drainSlotRefusal s (length memory) (length buffer)) _ refl)
 
 -- the same for whoever knows the answers of the call and the table it was made with
 pub by-draining :

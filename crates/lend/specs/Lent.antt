@@ -7,7 +7,7 @@ use lib.Dec.{eqb}
 use lib.ListN.{length, drop}
 use Rattle.common.specs.Choice.{if_then_else_}
 use Rattle.common.specs.Refusals.{_gives_, refusalBy}
-use Rattle.common.specs.Ranges.{isWithin}
+use Rattle.common.specs.Ranges.{isOneTo}
 use Rattle.supervisor.specs.Draining.{drainConditions, drainedState, writtenBytes}
 use Rattle.supervisor.specs.Table.{slotWithState, isEmpty}
 use Rattle.supervisor.specs.Sound.{slotSound}
@@ -17,8 +17,8 @@ use Rattle.lend.specs.declared.lent.LentAnswer.{LentAnswer}
 
 -- what refuses it: 1 if the memory's length is out of range or the slot breaks a rule of a sound table, disjointness aside, its
 -- partition measured against that memory; then 5; then what refuses a draining
-unfoldable pub lentRefusal : Slot → ℕ → ℕ → ℕ
-lentRefusal s size room = refusalBy ((not (isWithin size 65536 && slotSound size s) gives 1 ∷ isEmpty s gives 5 ∷ []) ++ drainConditions s room)
+unfoldable pub drainSlotRefusal : Slot → ℕ → ℕ → ℕ
+drainSlotRefusal s size room = refusalBy ((not (isOneTo size 65536 && slotSound size s) gives 1 ∷ isEmpty s gives 5 ∷ []) ++ drainConditions s room)
 
 -- what it gives and leaves, as one value: the answer with the slot, and the buffer
 pub record LentOutcome : Type 0 where
@@ -35,10 +35,10 @@ lentOutcome d s buffer = slotOutcome (record { drained = d; slot = s }) buffer
 -- a refusal leaves everything; else it does what draining does
 unfoldable pub drainSlotOf : Slot → List ℕ → List ℕ → LentOutcome
 drainSlotOf s memory buffer =
-    if eqb (lentRefusal s (length memory) (length buffer)) 0
+    if eqb (drainSlotRefusal s (length memory) (length buffer)) 0
     then
     lentOutcome
     (record { refusal = 0; count = s .state .written })
     (slotWithState s (drainedState (s .state)))
     (writtenBytes s memory ++ drop (s .state .written) buffer)
-    else lentOutcome (record { refusal = lentRefusal s (length memory) (length buffer); count = 0 }) s buffer
+    else lentOutcome (record { refusal = drainSlotRefusal s (length memory) (length buffer); count = 0 }) s buffer

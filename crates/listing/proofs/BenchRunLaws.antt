@@ -15,10 +15,10 @@ use Rattle.supervisor.specs.ConditionLaws.{SoundSystem, ReadySlot, loaded-ready
 use Rattle.supervisor.specs.declared.reported.Report.{Report}
 use Rattle.supervisor.specs.declared.table.Table.{Table}
 use Rattle.listing.specs.Text.{refusedLine, linesOf}
-use Rattle.listing.specs.BenchListing.{freshSystem, loadCall, afterRounds, fileRefusal, linesAfter, textOf, memoryAfter, listingOutcome, listingOf}
+use Rattle.listing.specs.BenchListing.{newSystem, loadCall, afterBenchRounds, fileRefusal, linesAfter, textOf, memoryAfter, listingOutcome, listingOf}
 use Rattle.listing.specs.UntilStopped.{untilStopped}
-use Rattle.listing.specs.ListingLaws.{slot-loaded, after-rounds-ready, status-low, output-few, output-length, drained-front}
-use Rattle.common.specs.RefusalDefinitions.{condition-definitions}
+use Rattle.listing.specs.ListingLaws.{slot-loaded, after-bench-rounds-ready, status-low, output-few, output-length, drained-front}
+use Rattle.common.specs.ConditionDefinitions.{condition-definitions}
 
 -- ---- report and output
 
@@ -66,11 +66,11 @@ module _ (file memory : List ℕ) where
   unfolding condition-definitions fileRefusal
   long-file h = rw (lt-ltb 36895 (length file) h)
 
-  short-refused : length file ≤ 36895 → (refusal (loadCall file) (freshSystem memory) ≡ 0 → ⊥) → fileRefusal file memory ≡ refusal (loadCall file) (freshSystem memory)
+  short-refused : length file ≤ 36895 → (refusal (loadCall file) (newSystem memory) ≡ 0 → ⊥) → fileRefusal file memory ≡ refusal (loadCall file) (newSystem memory)
   unfolding condition-definitions fileRefusal
-  short-refused h some = rw (le-ltb 36895 (length file) h, ne-eqb (refusal (loadCall file) (freshSystem memory)) 0 some)
+  short-refused h some = rw (le-ltb 36895 (length file) h, ne-eqb (refusal (loadCall file) (newSystem memory)) 0 some)
 
-  short-accepted : length file ≤ 36895 → refusal (loadCall file) (freshSystem memory) ≡ 0 → fileRefusal file memory ≡ 0
+  short-accepted : length file ≤ 36895 → refusal (loadCall file) (newSystem memory) ≡ 0 → fileRefusal file memory ≡ 0
   unfolding condition-definitions fileRefusal
   short-accepted h none = rw (le-ltb 36895 (length file) h, none)
 
@@ -86,14 +86,14 @@ module _ (file memory : List ℕ) where
 
   module _ (short : length file ≤ 36895) (k : ℕ) (t₁ t₂ : Table) (m₂ : List ℕ) (new : t₁ ≡ newTable 40960)
       (answer : outcome k t₂ m₂ ≡ outcomeOf (loadCall file) (system t₁ memory)) where
-    from-new : outcome k t₂ m₂ ≡ outcomeOf (loadCall file) (freshSystem memory)
+    from-new : outcome k t₂ m₂ ≡ outcomeOf (loadCall file) (newSystem memory)
     from-new = answer ∙ ap (λ (t : Table). outcomeOf (loadCall file) (system t memory)) new
 
-    load-refusal : k ≡ refusal (loadCall file) (freshSystem memory)
+    load-refusal : k ≡ refusal (loadCall file) (newSystem memory)
     unfolding outcomeOf
     load-refusal = ap (λ (o : Outcome). o .refusal) from-new
 
-    load-after : system t₂ m₂ ≡ afterCall (loadCall file) (freshSystem memory)
+    load-after : system t₂ m₂ ≡ afterCall (loadCall file) (newSystem memory)
     unfolding outcomeOf
     load-after = ap (λ (o : Outcome). o .after) from-new
 
@@ -101,18 +101,18 @@ module _ (file memory : List ℕ) where
         → (n ≡ length (textOf file memory)) × ((m₂ ≡ memoryAfter file memory) × (t ≡ textOf file memory ++ drop n t₀))
     unfolding afterCall if_then_else_
     refused-load n t₀ t some e =
-        let z : refusal (loadCall file) (freshSystem memory) ≡ 0 → ⊥ = λ h. some (load-refusal ∙ h) in
-        let kept : m₂ ≡ memory = ap (λ (x : System). x .memory) load-after ∙ rw (ne-eqb (refusal (loadCall file) (freshSystem memory)) 0 z) in
+        let z : refusal (loadCall file) (newSystem memory) ≡ 0 → ⊥ = λ h. some (load-refusal ∙ h) in
+        let kept : m₂ ≡ memory = ap (λ (x : System). x .memory) load-after ∙ rw (ne-eqb (refusal (loadCall file) (newSystem memory)) 0 z) in
         let whole = refused-text k n t₀ t (short-refused short z ∙ sym load-refusal) some e in
         (whole .0, (kept ∙ whole .1 .0, whole .1 .1))
 
     module _ (none : k ≡ 0) (room : length memory ≡ 40960) (t₃ : Table) (m₃ : List ℕ) (ran : system t₃ m₃ ≡ untilStopped 1000 (system t₂ m₂)) where
-      pub end-after-rounds : system t₃ m₃ ≡ afterRounds file memory
-      unfolding afterRounds
-      end-after-rounds = ran ∙ ap (untilStopped 1000) load-after
+      pub end-after-bench-rounds : system t₃ m₃ ≡ afterBenchRounds file memory
+      unfolding afterBenchRounds
+      end-after-bench-rounds = ran ∙ ap (untilStopped 1000) load-after
 
       end-ready : ReadySlot (system t₃ m₃) 0
-      end-ready = rw end-after-rounds (after-rounds-ready file memory room (sym load-refusal ∙ none))
+      end-ready = rw end-after-bench-rounds (after-bench-rounds-ready file memory room (sym load-refusal ∙ none))
 
       pub end-sound : SoundSystem (system t₃ m₃)
       end-sound = end-ready .system
@@ -120,8 +120,8 @@ module _ (file memory : List ℕ) where
       pub end-loaded : isEmpty (slotOf (system t₃ m₃) 0) ≡ false
       end-loaded = slot-loaded (system t₃ m₃) end-ready
 
-      pub after-rounds-text : (n : ℕ) (t₀ t : List ℕ) → (n ≡ length (linesAfter (system t₃ m₃))) × (t ≡ linesAfter (system t₃ m₃) ++ drop n t₀)
+      pub after-bench-rounds-text : (n : ℕ) (t₀ t : List ℕ) → (n ≡ length (linesAfter (system t₃ m₃))) × (t ≡ linesAfter (system t₃ m₃) ++ drop n t₀)
           → (n ≡ length (textOf file memory)) × ((m₃ ≡ memoryAfter file memory) × (t ≡ textOf file memory ++ drop n t₀))
       unfolding textOf memoryAfter if_then_else_
-      after-rounds-text n t₀ t e =
-          rw (short-accepted short (sym load-refusal ∙ none), ← end-after-rounds) (e .0, (refl, e .1))
+      after-bench-rounds-text n t₀ t e =
+          rw (short-accepted short (sym load-refusal ∙ none), ← end-after-bench-rounds) (e .0, (refl, e .1))

@@ -10,7 +10,7 @@ use Rattle.slices.specs.SliceLaws.{copied-front, copied-next, copied-whole}
 use Rattle.slices.specs.Slices.{copied}
 use Rattle.supervisor.specs.declared.reported.Report.{Report}
 use Rattle.listing.specs.Ascii.{ascii}
-use Rattle.listing.specs.Text.{hexByte, hexWord, decimalDigits, field, fields, refusedLine, reportLine, outputLine, linesOf}
+use Rattle.listing.specs.Text.{hexByte, hexU16, decimalDigits, field, fields, refusedLine, reportLine, outputLine, linesOf}
 use Rattle.listing.specs.TextLaws.{field-length, fields-length, fields-append, fields-more, one-digit, decimal-digits-short}
 
 -- ---- fields, in a loop
@@ -65,7 +65,7 @@ six-parts a b c d e f = simp append-assoc
 
 module _ (r : Report) (o : List ℕ) (low : r .status < 10) (seven : length (r .registers) ≡ 7) where
   abbrev headText : List ℕ
-  headText = decimalDigits (r .status) ++ ascii " " ++ hexWord (r .counter)
+  headText = decimalDigits (r .status) ++ ascii " " ++ hexU16 (r .counter)
 
   abbrev fieldsText : List ℕ
   fieldsText = fields (r .psu ∷ r .psl ∷ r .registers)
@@ -74,8 +74,8 @@ module _ (r : Report) (o : List ℕ) (low : r .status < 10) (seven : length (r .
   betweenText = ascii "\nout"
 
   head-length : length headText ≡ 6
-  unfolding hexWord hexByte
-  head-length = ap (λ (l : List ℕ). length (l ++ ascii " " ++ hexWord (r .counter))) (one-digit (r .status) low)
+  unfolding hexU16 hexByte
+  head-length = ap (λ (l : List ℕ). length (l ++ ascii " " ++ hexU16 (r .counter))) (one-digit (r .status) low)
 
   fields-text-length : length fieldsText ≡ 27
   fields-text-length = let h = fields-length (r .psu ∷ r .psl ∷ r .registers) in omega (arith, h, seven)

@@ -14,23 +14,23 @@ use Rattle.listing.specs.UntilStopped.{untilStopped}
 use Rattle.listing.specs.Text.{refusedLine, linesOf}
 
 -- a new table for a memory of 40,960 bytes
-abbrev pub freshSystem : List ℕ → System
-freshSystem memory = system (newTable 40960) memory
+abbrev pub newSystem : List ℕ → System
+newSystem memory = system (newTable 40960) memory
 
 -- the file is loaded at slot 0, location 0
 abbrev pub loadCall : List ℕ → Call
 loadCall file = change 0 (load (record { 0 = 0 }) file)
 
 -- and then its rounds are made, 1,000 at most
-unfoldable pub afterRounds : List ℕ → List ℕ → System
-afterRounds file memory = untilStopped 1000 (afterCall (loadCall file) (freshSystem memory))
+unfoldable pub afterBenchRounds : List ℕ → List ℕ → System
+afterBenchRounds file memory = untilStopped 1000 (afterCall (loadCall file) (newSystem memory))
 
 -- the number that refuses the file, 0 for none
 unfoldable pub fileRefusal : List ℕ → List ℕ → ℕ
 fileRefusal file memory =
     refusalBy
     (ltb 36895 (length file) gives 6
-    ∷ not (eqb (refusal (loadCall file) (freshSystem memory)) 0) gives refusal (loadCall file) (freshSystem memory)
+    ∷ not (eqb (refusal (loadCall file) (newSystem memory)) 0) gives refusal (loadCall file) (newSystem memory)
     ∷ [])
 
 -- the slot is reported on first, and then drained: draining takes status 4 away
@@ -40,11 +40,11 @@ linesAfter x = linesOf (reportOf (x .table) 0) (writtenBytes (slotOf x 0) (x .me
 -- the text: the two lines, or the one of a refused file
 unfoldable pub textOf : List ℕ → List ℕ → List ℕ
 textOf file memory =
-    if eqb (fileRefusal file memory) 0 then linesAfter (afterRounds file memory) else refusedLine (fileRefusal file memory)
+    if eqb (fileRefusal file memory) 0 then linesAfter (afterBenchRounds file memory) else refusedLine (fileRefusal file memory)
 
 -- the memory afterwards: as the rounds leave it, since a drain changes no byte of it; as it was where the file is refused
 unfoldable pub memoryAfter : List ℕ → List ℕ → List ℕ
-memoryAfter file memory = if eqb (fileRefusal file memory) 0 then afterRounds file memory .memory else memory
+memoryAfter file memory = if eqb (fileRefusal file memory) 0 then afterBenchRounds file memory .memory else memory
 
 -- the length of the longest text, 12,326: the first line with its newline, `out`, 4,096 bytes of output as fields, a newline
 abbrev pub longestText : ℕ

@@ -7,7 +7,7 @@ use Rattle.supervisor.specs.CallDefinitions.{sound-definitions, refusal-definit
 use Rattle.supervisor.specs.Calls.{afterAccepted, afterCall, reportOf}
 use Rattle.supervisor.specs.Loading.{partitionFor}
 use Rattle.supervisor.specs.Table.{newTable, newRefusal}
-use Rattle.listing.specs.LoneLaws.{aloneUntil, aloneReport, aloneLines}
+use Rattle.listing.specs.LoneLaws.{loneUntil, loneReport, loneLines}
 use Rattle.listing.specs.TextDefinitions.{text-definitions}
 
 -- what refuses a load into a new table
@@ -16,9 +16,9 @@ unfolding file-definitions sound-definitions refusal-definitions newTable newRef
 load-definitions = Unit {0}
 
 -- the lone machine of a file, its rounds and its lines
-unfoldable pub alone-definitions : Type 0
-unfolding step-definitions file-definitions text-definitions times partitionFor freshState freshBytes freshMachine aloneLines aloneUntil aloneReport
-alone-definitions = Unit {0}
+unfoldable pub lone-definitions : Type 0
+unfolding step-definitions file-definitions text-definitions times partitionFor freshState freshBytes freshMachine loneLines loneUntil loneReport
+lone-definitions = Unit {0}
 
 -- a load, a round and a report
 unfoldable pub round-definitions : Type 0

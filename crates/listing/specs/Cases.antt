@@ -12,10 +12,10 @@ use Rattle.supervisor.specs.System.{System, system, slotOf}
 use Rattle.supervisor.specs.Table.{newTable}
 use Rattle.loader.specs.Fresh.{freshMachine}
 use Rattle.listing.specs.Ascii.{ascii}
-use Rattle.listing.specs.BenchListing.{freshSystem, loadCall, fileRefusal, textOf, memoryAfter, longestText, listingOutcome, listingOf}
-use Rattle.listing.specs.LoneLaws.{aloneUntil, aloneLines, text-alone}
-use Rattle.common.specs.RefusalDefinitions.{condition-definitions}
-use Rattle.listing.specs.CaseDefinitions.{load-definitions, alone-definitions, round-definitions}
+use Rattle.listing.specs.BenchListing.{newSystem, loadCall, fileRefusal, textOf, memoryAfter, longestText, listingOutcome, listingOf}
+use Rattle.listing.specs.LoneLaws.{loneUntil, loneLines, lone-text}
+use Rattle.common.specs.ConditionDefinitions.{condition-definitions}
+use Rattle.listing.specs.CaseDefinitions.{load-definitions, lone-definitions, round-definitions}
 
 -- K10's partition has 24 bytes, and so has the memory
 abbrev pub k10Before : System
@@ -45,21 +45,21 @@ pub record WorkedCases : Type 0 where
       ≡ record { refusal = 0; status = 1; counter = 3; registers = 0x42 ∷ 0 ∷ 0 ∷ 0 ∷ 0 ∷ 0 ∷ 0 ∷ []; psu = 0; psl = 0x40 }
   pub k11-written : slotOf (afterCall (run 1) k10Loaded) 0 .state .written ≡ 0
 
-k10-refusal : (memory : List ℕ) → length memory ≡ 40960 → refusal (loadCall pattern.k10) (freshSystem memory) ≡ 0
+k10-refusal : (memory : List ℕ) → length memory ≡ 40960 → refusal (loadCall pattern.k10) (newSystem memory) ≡ 0
 unfolding load-definitions
 k10-refusal memory h = rw (eq-eqb (length memory) 40960 h)
 
-k10-alone : aloneLines (aloneUntil 1000 (reader.parametersOf pattern.k10 .quantum) (freshMachine pattern.k10)) ≡ k10Text
-unfolding alone-definitions
-k10-alone = refl
+k10-lone : loneLines (loneUntil 1000 (reader.parametersOf pattern.k10 .quantum) (freshMachine pattern.k10)) ≡ k10Text
+unfolding lone-definitions
+k10-lone = refl
 
 k10-listing : (memory text : List ℕ) → length memory ≡ 40960 → longestText ≤ length text
     → listingOf pattern.k10 memory text ≡ listingOutcome 0 41 (memoryAfter pattern.k10 memory) (k10Text ++ drop 41 text)
 unfolding condition-definitions listingOf fileRefusal
 k10-listing memory text h room =
-    let none : refusal (loadCall pattern.k10) (freshSystem memory) ≡ 0 = k10-refusal memory h in
+    let none : refusal (loadCall pattern.k10) (newSystem memory) ≡ 0 = k10-refusal memory h in
     let read : fileRefusal pattern.k10 memory ≡ 0 = rw none in
-    let same : textOf pattern.k10 memory ≡ k10Text = text-alone pattern.k10 memory h read ∙ k10-alone in
+    let same : textOf pattern.k10 memory ≡ k10Text = lone-text pattern.k10 memory h read ∙ k10-lone in
     rw (le-ltb (length text) longestText room, eq-eqb (length memory) 40960 h, same)
 
 pub worked-cases : WorkedCases

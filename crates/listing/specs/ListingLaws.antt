@@ -25,16 +25,16 @@ use Rattle.supervisor.specs.RoundLaws.{DiffersByRunning, rounds-running}
 use Rattle.supervisor.specs.SoundLaws.{loaded-live, table-fact, table-test}
 use Rattle.supervisor.specs.Location.{outputLocation}
 use Rattle.supervisor.specs.IsolationTheorem.{run-accepted}
-use Rattle.listing.specs.BenchListing.{freshSystem, loadCall, afterRounds}
+use Rattle.listing.specs.BenchListing.{newSystem, loadCall, afterBenchRounds}
 use Rattle.listing.specs.UntilStopped.{untilStopped}
 use Rattle.supervisor.specs.CallDefinitions.{sound-definitions, refusal-definitions}
-use Rattle.common.specs.RefusalDefinitions.{condition-definitions}
+use Rattle.common.specs.ConditionDefinitions.{condition-definitions}
 
 -- slot 0 is loaded
 pub slot-loaded : (x : System) → ReadySlot x 0 → isEmpty (slotOf x 0) ≡ false
 slot-loaded x r = loaded-live _ _ (r .holds .loaded)
 
-pub fresh-sound : (memory : List ℕ) → length memory ≡ 40960 → SoundSystem (freshSystem memory)
+pub fresh-sound : (memory : List ℕ) → length memory ≡ 40960 → SoundSystem (newSystem memory)
 unfolding condition-definitions sound-definitions newTable newRefusal
 fresh-sound memory h = record { table = table-fact (newTable 40960) refl; fits = h }
 
@@ -92,9 +92,9 @@ until-done (suc n) x {b} e h =
     let s : eqb (slotOf x 0 .state .status) 1 ≡ false = sym e ∙ (rw (lt-ltb 0 (suc n) (omega arith)) at h) in
     rw s
 
-pub after-rounds-ready : (file memory : List ℕ) → length memory ≡ 40960 → refusal (loadCall file) (freshSystem memory) ≡ 0 → ReadySlot (afterRounds file memory) 0
-unfolding afterRounds
-after-rounds-ready file memory h e = until-keeps (λ (x : System). ReadySlot x 0) round-ready 1000 _ (load-ready file (freshSystem memory) (fresh-sound memory h) e)
+pub after-bench-rounds-ready : (file memory : List ℕ) → length memory ≡ 40960 → refusal (loadCall file) (newSystem memory) ≡ 0 → ReadySlot (afterBenchRounds file memory) 0
+unfolding afterBenchRounds
+after-bench-rounds-ready file memory h e = until-keeps (λ (x : System). ReadySlot x 0) round-ready 1000 _ (load-ready file (newSystem memory) (fresh-sound memory h) e)
 
 -- ---- report and output
 

@@ -30,20 +30,20 @@ use Rattle.supervisor.specs.RoundLaws.{rounds-running, rounds-machine}
 use Rattle.supervisor.specs.declared.reported.Report.{Report}
 use Rattle.supervisor.specs.declared.table.Partition.{Partition}
 use Rattle.supervisor.specs.declared.table.Slot.{Slot}
-use Rattle.listing.specs.BenchListing.{freshSystem, loadCall, afterRounds, fileRefusal, linesAfter, textOf}
+use Rattle.listing.specs.BenchListing.{newSystem, loadCall, afterBenchRounds, fileRefusal, linesAfter, textOf}
 use Rattle.listing.specs.UntilStopped.{untilStopped}
-use Rattle.listing.specs.ListingLaws.{slot-loaded, fresh-sound, load-after-accepted, load-ready, round-after-accepted, round-ready, after-rounds-ready, report-accepted}
+use Rattle.listing.specs.ListingLaws.{slot-loaded, fresh-sound, load-after-accepted, load-ready, round-after-accepted, round-ready, after-bench-rounds-ready, report-accepted}
 use Rattle.listing.specs.Text.{linesOf}
 
 -- ---- the lone machine's lines
 
 -- quanta of q steps until the status is not 1 or n are made
-unfoldable pub aloneUntil : ℕ → ℕ → Machine → Machine
-aloneUntil zero q m = m
-aloneUntil (suc n) q m = if eqb (m .state .status) 1 then aloneUntil n q (times q machineStep m) else m
+unfoldable pub loneUntil : ℕ → ℕ → Machine → Machine
+loneUntil zero q m = m
+loneUntil (suc n) q m = if eqb (m .state .status) 1 then loneUntil n q (times q machineStep m) else m
 
-unfoldable pub aloneReport : Machine → Report
-aloneReport m =
+unfoldable pub loneReport : Machine → Report
+loneReport m =
     record {
       refusal = 0;
       status = m .state .status;
@@ -53,8 +53,8 @@ aloneReport m =
       psl = m .state .cpu .psl;
     }
 
-unfoldable pub aloneLines : Machine → List ℕ
-aloneLines m = linesOf (aloneReport m) (take (m .state .written) (m .output))
+unfoldable pub loneLines : Machine → List ℕ
+loneLines m = linesOf (loneReport m) (take (m .state .written) (m .output))
 
 -- ---- rounds
 
@@ -71,19 +71,19 @@ same-status : (x : System) → eqb (slotMachine 0 x .state .status) 1 ≡ eqb (s
 unfolding machineIn
 same-status x = refl
 
-until-machine : (n : ℕ) (x : System) → ReadySlot x 0 → slotMachine 0 (untilStopped n x) ≡ aloneUntil n (slotOf x 0 .partition .quantum) (slotMachine 0 x)
-unfolding untilStopped aloneUntil if_then_else_
+until-machine : (n : ℕ) (x : System) → ReadySlot x 0 → slotMachine 0 (untilStopped n x) ≡ loneUntil n (slotOf x 0 .partition .quantum) (slotMachine 0 x)
+unfolding untilStopped loneUntil if_then_else_
 until-machine zero x r = refl
 until-machine (suc n) x r =
     go (eqb (slotOf x 0 .state .status) 1) (same-status x) (until-machine n (afterCall (run 1) x) (round-ready x r))
   where
     go : (b : Bool) → eqb (slotMachine 0 x .state .status) 1 ≡ b
-        → slotMachine 0 (untilStopped n (afterCall (run 1) x)) ≡ aloneUntil n (slotOf (afterCall (run 1) x) 0 .partition .quantum) (slotMachine 0 (afterCall (run 1) x))
+        → slotMachine 0 (untilStopped n (afterCall (run 1) x)) ≡ loneUntil n (slotOf (afterCall (run 1) x) 0 .partition .quantum) (slotMachine 0 (afterCall (run 1) x))
         → slotMachine 0 (if b then untilStopped n (afterCall (run 1) x) else x)
-        ≡ (if eqb (slotMachine 0 x .state .status) 1 then aloneUntil n (slotOf x 0 .partition .quantum) (times (slotOf x 0 .partition .quantum) machineStep (slotMachine 0 x)) else slotMachine 0 x)
+        ≡ (if eqb (slotMachine 0 x .state .status) 1 then loneUntil n (slotOf x 0 .partition .quantum) (times (slotOf x 0 .partition .quantum) machineStep (slotMachine 0 x)) else slotMachine 0 x)
     go true e ih =
         rw (e, ← step-machine x r)
-        (ih ∙ ap (λ (p : Partition). aloneUntil n (p .quantum) (slotMachine 0 (afterCall (run 1) x))) (step-partition x r))
+        (ih ∙ ap (λ (p : Partition). loneUntil n (p .quantum) (slotMachine 0 (afterCall (run 1) x))) (step-partition x r))
     go false e ih = rw e
 
 -- ---- the load
@@ -106,48 +106,48 @@ load-machine file x g e =
 
 -- ---- the lines
 
-report-alone : (x : System) → ReadySlot x 0 → reportOf (x .table) 0 ≡ aloneReport (slotMachine 0 x)
-unfolding reportOf aloneReport machineIn if_then_else_
-report-alone x r = rw (report-accepted x r)
+lone-report : (x : System) → ReadySlot x 0 → reportOf (x .table) 0 ≡ loneReport (slotMachine 0 x)
+unfolding reportOf loneReport machineIn if_then_else_
+lone-report x r = rw (report-accepted x r)
 
 -- the written bytes, which lie in memory behind the input, are the front of the machine's output
-written-alone : (x : System) → ReadySlot x 0 → writtenBytes (slotOf x 0) (x .memory) ≡ take (slotMachine 0 x .state .written) (slotMachine 0 x .output)
+lone-written : (x : System) → ReadySlot x 0 → writtenBytes (slotOf x 0) (x .memory) ≡ take (slotMachine 0 x .state .written) (slotMachine 0 x .output)
 unfolding writtenBytes machineIn
-written-alone x r =
+lone-written x r =
     let p : Partition = slotOf x 0 .partition in
     let l = p .layout in
     let n : ℕ = slotOf x 0 .state .written in
     let few : n ≤ l .output = r .holds .loaded .state .written in
     let from : ℕ = l .window + l .input in
-    let place : p .base .0 + from ≡ p .base .0 + l .window + l .input = omega arith in
+    let location : p .base .0 + from ≡ p .base .0 + l .window + l .input = omega arith in
     sym
     (take-take n (l .output) (drop from (partOf (x .memory) (p .base .0) (layoutSize l))) few
     ∙ ap (take n) (sym (part-front (drop (p .base .0) (x .memory)) from (l .output)))
     ∙ take-take n (l .output) (drop from (drop (p .base .0) (x .memory))) few
-    ∙ ap (take n) (drop-drop from (p .base .0) (x .memory) ∙ ap (λ (k : ℕ). drop k (x .memory)) place))
+    ∙ ap (take n) (drop-drop from (p .base .0) (x .memory) ∙ ap (λ (k : ℕ). drop k (x .memory)) location))
 
-lines-alone : (x : System) → ReadySlot x 0 → linesAfter x ≡ aloneLines (slotMachine 0 x)
-unfolding linesAfter aloneLines
-lines-alone x r = rw (report-alone x r, written-alone x r)
+lone-lines : (x : System) → ReadySlot x 0 → linesAfter x ≡ loneLines (slotMachine 0 x)
+unfolding linesAfter loneLines
+lone-lines x r = rw (lone-report x r, lone-written x r)
 
-load-accepted-too : (file memory : List ℕ) → fileRefusal file memory ≡ 0 → refusal (loadCall file) (freshSystem memory) ≡ 0
+load-accepted-too : (file memory : List ℕ) → fileRefusal file memory ≡ 0 → refusal (loadCall file) (newSystem memory) ≡ 0
 unfolding fileRefusal
 load-accepted-too file memory e =
-    eqb-true _ _ (not-false _ (none-holds (_ ∷ _ ∷ []) (λ z. omega arith, (given-numbered (refusal (loadCall file) (freshSystem memory)), tt)) e .1 .0))
+    eqb-true _ _ (not-false _ (none-holds (_ ∷ _ ∷ []) (λ z. omega arith, (given-numbered (refusal (loadCall file) (newSystem memory)), tt)) e .1 .0))
 
 -- the text of a file that is not refused
-pub text-alone : (file memory : List ℕ) → length memory ≡ 40960 → fileRefusal file memory ≡ 0
-    → textOf file memory ≡ aloneLines (aloneUntil 1000 (parametersOf file .quantum) (freshMachine file))
-unfolding textOf afterRounds partitionFor if_then_else_
-text-alone file memory h e =
-    let f : refusal (loadCall file) (freshSystem memory) ≡ 0 = load-accepted-too file memory e in
-    let x : System = afterCall (loadCall file) (freshSystem memory) in
-    let g : SoundSystem (freshSystem memory) = fresh-sound memory h in
-    let r : ReadySlot x 0 = load-ready file (freshSystem memory) g f in
-    let m = load-machine file (freshSystem memory) g f in
+pub lone-text : (file memory : List ℕ) → length memory ≡ 40960 → fileRefusal file memory ≡ 0
+    → textOf file memory ≡ loneLines (loneUntil 1000 (parametersOf file .quantum) (freshMachine file))
+unfolding textOf afterBenchRounds partitionFor if_then_else_
+lone-text file memory h e =
+    let f : refusal (loadCall file) (newSystem memory) ≡ 0 = load-accepted-too file memory e in
+    let x : System = afterCall (loadCall file) (newSystem memory) in
+    let g : SoundSystem (newSystem memory) = fresh-sound memory h in
+    let r : ReadySlot x 0 = load-ready file (newSystem memory) g f in
+    let m = load-machine file (newSystem memory) g f in
     rw e
-    (lines-alone (afterRounds file memory) (after-rounds-ready file memory h f)
-    ∙ ap aloneLines
+    (lone-lines (afterBenchRounds file memory) (after-bench-rounds-ready file memory h f)
+    ∙ ap loneLines
     (until-machine 1000 x r
-    ∙ ap (λ (p : Partition). aloneUntil 1000 (p .quantum) (slotMachine 0 x)) (m .1)
-    ∙ ap (aloneUntil 1000 (parametersOf file .quantum)) (m .0)))
+    ∙ ap (λ (p : Partition). loneUntil 1000 (p .quantum) (slotMachine 0 x)) (m .1)
+    ∙ ap (loneUntil 1000 (parametersOf file .quantum)) (m .0)))

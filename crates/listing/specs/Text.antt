@@ -17,8 +17,8 @@ unfoldable pub hexByte : ℕ → List ℕ
 hexByte b = hexDigit (b / 16) ∷ hexDigit (b % 16) ∷ []
 
 -- four digits
-unfoldable pub hexWord : ℕ → List ℕ
-hexWord w = hexByte (w / 256) ++ hexByte (w % 256)
+unfoldable pub hexU16 : ℕ → List ℕ
+hexU16 w = hexByte (w / 256) ++ hexByte (w % 256)
 
 -- a number below 100, which a status and a refusal are, in decimal
 unfoldable pub decimalDigits : ℕ → List ℕ
@@ -39,7 +39,7 @@ refusedLine n = ascii "refused " ++ decimalDigits n ++ ascii "\n"
 
 -- status number, counter, PSU, PSL, R0, R1 to R3 of bank 0, R1 to R3 of bank 1
 unfoldable pub reportLine : Report → List ℕ
-reportLine r = decimalDigits (r .status) ++ ascii " " ++ hexWord (r .counter) ++ fields (r .psu ∷ r .psl ∷ r .registers) ++ ascii "\n"
+reportLine r = decimalDigits (r .status) ++ ascii " " ++ hexU16 (r .counter) ++ fields (r .psu ∷ r .psl ∷ r .registers) ++ ascii "\n"
 
 -- `out` and each byte; `out` alone if there is none
 unfoldable pub outputLine : List ℕ → List ℕ

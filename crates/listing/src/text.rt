@@ -6,7 +6,7 @@ ghost use Prim.Native.Nat.{_+_, _*_, _≤_, _<_};
 ghost use lib.ListN.{length, drop};
 ghost use Rattle.slices.specs.Slices.{copied};
 ghost use Rattle.listing.specs.Ascii.{ascii};
-ghost use Rattle.listing.specs.Text.{hexDigit, hexWord, decimalDigits, field, fields, refusedLine, linesOf};
+ghost use Rattle.listing.specs.Text.{hexDigit, hexU16, decimalDigits, field, fields, refusedLine, linesOf};
 
 // A digit of a number below 16: the letters are capitals.
 fn hex_digit(n: u8) -> u8
@@ -38,7 +38,7 @@ fn put_fields(bytes: &[u8], text: &mut [u8], at: usize)
 // A status of one digit, and a counter.
 fn put_status_and_counter(status: u8, counter: u16, text: &mut [u8])
     requires { ⌜ status < 10 ⌝ }
-    ensures { λ _. ⌜ now (text .exit) ≡ copied (now (text .entry)) 0 (decimalDigits status ++ ascii " " ++ hexWord counter) ⌝ }
+    ensures { λ _. ⌜ now (text .exit) ≡ copied (now (text .entry)) 0 (decimalDigits status ++ ascii " " ++ hexU16 counter) ⌝ }
 {
     let high = (counter / 256) as u8;
     let low = (counter % 256) as u8;

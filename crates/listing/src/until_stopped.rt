@@ -14,7 +14,7 @@ fn is_running(table: Table) -> bool
     state.status == 1
 }
 
-// At most 1,000.
+// Makes single rounds until the pattern stops, 1,000 at most.
 pub(crate) fn run_until_stopped(table: Table, memory: &mut [u8]) -> Table
     ensures { λ r. ⌜ system r (now (memory .exit)) ≡ untilStopped 1000 (system table (now (memory .entry))) ⌝ }
 {

@@ -17,8 +17,8 @@ use Rattle.loader.specs.FreshLaws.{freshParts, fresh-accepted, fresh-len
 
 pub three-parts : (d e f g : List ℕ) (at m n : ℕ) (r s t : List ℕ) → e ≡ copied d at r → f ≡ copied e m s → g ≡ copied f n t
     → m ≡ at + length r → n ≡ at + length r + length s → at + length r + length s + length t ≤ length d → g ≡ copied d at (r ++ s ++ t)
-three-parts d e f g at m n r s t p q w place next h =
-    let both-parts : f ≡ copied d at (r ++ s) = copied-next d e f at m r s p q place (omega arith) in
+three-parts d e f g at m n r s t p q w location next h =
+    let both-parts : f ≡ copied d at (r ++ s) = copied-next d e f at m r s p q location (omega arith) in
     let size : length (r ++ s) ≡ length r + length s = length-append r s in
     copied-next d f g at n (r ++ s) t both-parts w (omega arith) (omega arith)
 

@@ -4,26 +4,26 @@ use mathlib.Core.List.{List, _++_}
 use Prim.Native.Nat.{ℕ}
 use lib.ListN.{length, replicate}
 use Rattle.cpu.specs.Machine.{Machine, machineOf}
-use Rattle.cpu.specs.State.{restingState, withStatus, withFilled}
+use Rattle.cpu.specs.State.{emptyState, withStatus, withFilled}
 use Rattle.cpu.specs.Cpu.{freshCpu}
 use Rattle.cpu.specs.declared.state.State.{State}
 use Rattle.pattern.specs.Image.{padded}
-use Rattle.pattern.specs.Reader.{readOf, parametersOf, ifAccepted, imageOf, inputOf}
+use Rattle.pattern.specs.Reader.{readOf, parametersOf, ifAccepted, imageOf, inputBodyOf}
 use Rattle.pattern.specs.declared.parameters.Parameters.{Parameters}
 
 -- a fresh machine, its counter at the start address; status 1; n bytes of input unread
 unfoldable pub freshState : Parameters → ℕ → State
-freshState p n = withFilled n (withStatus 1 (restingState (freshCpu (p .start))))
+freshState p n = withFilled n (withStatus 1 (emptyState (freshCpu (p .start))))
 
 -- the whole partition: the code and the first input at the fronts of their parts, unused bytes zero; of a refused file nothing
 unfoldable pub freshBytes : List ℕ → List ℕ
 freshBytes file =
     ifAccepted (readOf file)
-    (imageOf file ++ padded (parametersOf file .layout .input) (inputOf file) ++ replicate (parametersOf file .layout .output) 0)
+    (imageOf file ++ padded (parametersOf file .layout .input) (inputBodyOf file) ++ replicate (parametersOf file .layout .output) 0)
 
 -- the state of an accepted file, its first input unread
 abbrev pub fileState : List ℕ → State
-fileState file = freshState (parametersOf file) (length (inputOf file))
+fileState file = freshState (parametersOf file) (length (inputBodyOf file))
 
 -- the lone machine of an accepted file
 unfoldable pub freshMachine : List ℕ → Machine

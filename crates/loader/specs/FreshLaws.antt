@@ -7,7 +7,7 @@ use lib.ListN.{length, getD, replicate, length-append, length-replicate}
 use Rattle.common.specs.Layout.{layoutSize}
 use Rattle.pattern.specs.Image.{padded}
 use Rattle.pattern.specs.ImageLaws.{padded-length}
-use Rattle.pattern.specs.Reader.{readOf, parametersOf, codeOf, inputOf}
+use Rattle.pattern.specs.Reader.{readOf, parametersOf, codeBodyOf, inputBodyOf}
 use Rattle.pattern.specs.ReaderLaws.{code-fits, input-fits}
 use Rattle.pattern.specs.declared.reader.ReadResult.the-variants.{Accepted}
 use Rattle.pattern.specs.declared.parameters.Parameters.{Parameters}
@@ -16,7 +16,7 @@ use Rattle.loader.specs.Fresh.{freshBytes}
 module _ (file : List ℕ) where
   -- the bytes of an accepted file
   abbrev pub freshParts : Parameters → List ℕ
-  freshParts v = padded (v .layout .window) (codeOf file) ++ padded (v .layout .input) (inputOf file) ++ replicate (v .layout .output) 0
+  freshParts v = padded (v .layout .window) (codeBodyOf file) ++ padded (v .layout .input) (inputBodyOf file) ++ replicate (v .layout .output) 0
 
   pub fresh-accepted : readOf file ≡ Accepted (parametersOf file) → freshBytes file ≡ freshParts (parametersOf file)
   unfolding freshBytes
@@ -25,11 +25,11 @@ module _ (file : List ℕ) where
   pub fresh-length : readOf file ≡ Accepted (parametersOf file) → length (freshBytes file) ≡ layoutSize (parametersOf file .layout)
   fresh-length read =
       let l = parametersOf file .layout in
-      let first : List ℕ = padded (l .window) (codeOf file) in
-      let second : List ℕ = padded (l .input) (inputOf file) in
+      let first : List ℕ = padded (l .window) (codeBodyOf file) in
+      let second : List ℕ = padded (l .input) (inputBodyOf file) in
       let third : List ℕ = replicate (l .output) 0 in
-      let u : length first ≡ l .window = padded-length (l .window) (codeOf file) (code-fits file (parametersOf file) read) in
-      let y : length second ≡ l .input = padded-length (l .input) (inputOf file) (input-fits file (parametersOf file) read) in
+      let u : length first ≡ l .window = padded-length (l .window) (codeBodyOf file) (code-fits file (parametersOf file) read) in
+      let y : length second ≡ l .input = padded-length (l .input) (inputBodyOf file) (input-fits file (parametersOf file) read) in
       let z : length third ≡ l .output = length-replicate (l .output) 0 in
       ap length (fresh-accepted read) ∙ length-append (first ++ second) third ∙ rw (length-append first second, u, y, z)
 

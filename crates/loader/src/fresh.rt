@@ -17,13 +17,13 @@ use pattern::Parameters;
 pub fn fresh_state(parameters: Parameters, filled: u16) -> State
     ensures { λ r. ⌜ r ≡ freshState parameters filled ⌝ }
 {
-    let mut state = State::resting(Cpu::fresh(parameters.start));
+    let mut state = State::empty(Cpu::fresh(parameters.start));
     state.status = 1;
     state.filled = filled;
     state
 }
 
-// Writes `n` bytes at a place: the given ones, and zeros behind them.
+// Writes `n` bytes from `at` on: the given ones, and zeros behind them.
 fn put_padded(memory: &mut [u8], at: usize, n: usize, bytes: &[u8])
     requires { ⌜ length (now bytes) ≤ n ⌝ }
     requires { ⌜ at + n ≤ length (now memory) ⌝ }
@@ -47,16 +47,16 @@ fn put_parts(memory: &mut [u8], at: usize, layout: Layout, code: &[u8], input: &
     slices::fill(memory, at + window + capacity, layout.output as usize, 0);
 }
 
-// Writes the partition of a file at a place: all of it, or nothing where the file is refused or the partition would pass the end.
-pub fn put_fresh_bytes(file: &[u8], memory: &mut [u8], place: Location)
-    ensures { λ _. ⌜ now (memory .exit) ≡ copied (now (memory .entry)) (place .0) (freshBytes (now (file .entry))) ⌝ }
+// Writes the partition of a file at a location: all of it, or nothing where the file is refused or the partition would pass the end.
+pub fn put_fresh_bytes(file: &[u8], memory: &mut [u8], location: Location)
+    ensures { λ _. ⌜ now (memory .exit) ≡ copied (now (memory .entry)) (location .0) (freshBytes (now (file .entry))) ⌝ }
 {
     let answer = pattern::read(file);
     let pattern::ReadResult::Accepted(parameters) = answer else {
         return;
     };
     let layout = parameters.layout;
-    let at = place.0 as usize;
+    let at = location.0 as usize;
     if memory.len() < at {
         return;
     }

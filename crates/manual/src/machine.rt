@@ -10,7 +10,7 @@ pub(crate) fn started(counter: u16, r0: u8, r1: u8, psl: u8) -> State {
     cpu.registers[0] = r0;
     cpu.registers[1] = r1;
     cpu.psl = psl;
-    let mut state = State::resting(cpu);
+    let mut state = State::empty(cpu);
     state.status = 1;
     state
 }

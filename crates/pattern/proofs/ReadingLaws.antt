@@ -3,7 +3,7 @@ use Prim.Native.Nat.{ℕ}
 use mathlib.Core.List.{List}
 use mathlib.Core.Path.{_≡_, sym, ap, _∙_}
 use Rattle.common.specs.Refusals.{Condition, unless}
-use Rattle.pattern.specs.Frame.{afterRecord}
+use Rattle.pattern.specs.Frame.{behindRecord}
 use Rattle.pattern.specs.Reader.{noParameters, parametersIn, versionConditions, parametersConditions, codeConditions, inputConditions, endConditions, readOf}
 use Rattle.common.specs.RefusalLaws.{none-unless, unless-none, unless-refused}
 use Rattle.pattern.specs.ReaderLaws.{refused-accepted, accepted-same, version-record}
@@ -16,13 +16,13 @@ abbrev pub readFromEnd : Parameters → List ℕ → ReadResult
 readFromEnd v e = unless Refused (endConditions e) (Accepted v)
 
 abbrev pub readFromInput : Parameters → List ℕ → ReadResult
-readFromInput v i = unless Refused (inputConditions v i) (readFromEnd v (afterRecord i))
+readFromInput v i = unless Refused (inputConditions v i) (readFromEnd v (behindRecord i))
 
 abbrev pub readFromCode : Parameters → List ℕ → ReadResult
-readFromCode v c = unless Refused (codeConditions v c) (readFromInput v (afterRecord c))
+readFromCode v c = unless Refused (codeConditions v c) (readFromInput v (behindRecord c))
 
 abbrev pub readFromParameters : List ℕ → ReadResult
-readFromParameters p = unless Refused (parametersConditions 1 p) (readFromCode (parametersIn 1 p) (afterRecord p))
+readFromParameters p = unless Refused (parametersConditions 1 p) (readFromCode (parametersIn 1 p) (behindRecord p))
 
 module _ (ks : List Condition) (u : Parameters) {r : ReadResult} (answered : r ≡ unless Refused ks (Accepted u)) where
   -- a refused record
@@ -37,14 +37,14 @@ module _ (ks : List Condition) (u : Parameters) {r : ReadResult} (answered : r �
   reading-keeps told = accepted-same (unless-none Refused ks (Accepted u) refused-accepted (sym answered ∙ told) .1)
 
 -- each step: the next record's part of the file, what the record answered, and that it was accepted
-pub after-version : (s p : List ℕ) {r : ReadResult} {u : Parameters} → p ≡ afterRecord s → r ≡ unless Refused (versionConditions s) (Accepted noParameters)
+pub after-version : (s p : List ℕ) {r : ReadResult} {u : Parameters} → p ≡ behindRecord s → r ≡ unless Refused (versionConditions s) (Accepted noParameters)
     → r ≡ Accepted u → readOf s ≡ readFromParameters p
 unfolding readOf
 after-version s p place answered told =
     let form = version-record s (unless-none Refused (versionConditions s) (Accepted noParameters) refused-accepted (sym answered ∙ told) .0) .form in
     reading-goes-on (versionConditions s) noParameters answered told _ ∙ rw (form, ← place)
 
-pub after-parameters : (p c : List ℕ) {r : ReadResult} {v : Parameters} → c ≡ afterRecord p → r ≡ unless Refused (parametersConditions 1 p) (Accepted (parametersIn 1 p))
+pub after-parameters : (p c : List ℕ) {r : ReadResult} {v : Parameters} → c ≡ behindRecord p → r ≡ unless Refused (parametersConditions 1 p) (Accepted (parametersIn 1 p))
     → r ≡ Accepted v → readFromParameters p ≡ readFromCode v c
 after-parameters p c place answered told =
     reading-goes-on (parametersConditions 1 p) (parametersIn 1 p) answered told _
@@ -52,11 +52,11 @@ after-parameters p c place answered told =
     ∙ ap (λ (w : Parameters). readFromCode w c) (reading-keeps (parametersConditions 1 p) (parametersIn 1 p) answered told)
 
 module _ (v : Parameters) where
-  pub after-code : (c i : List ℕ) {r : ReadResult} {w : Parameters} → i ≡ afterRecord c → r ≡ unless Refused (codeConditions v c) (Accepted v)
+  pub after-code : (c i : List ℕ) {r : ReadResult} {w : Parameters} → i ≡ behindRecord c → r ≡ unless Refused (codeConditions v c) (Accepted v)
       → r ≡ Accepted w → readFromCode v c ≡ readFromInput v i
   after-code c i place answered told = reading-goes-on (codeConditions v c) v answered told _ ∙ ap (readFromInput v) (sym place)
 
-  pub after-input : (i e : List ℕ) {r : ReadResult} {w : Parameters} → e ≡ afterRecord i → r ≡ unless Refused (inputConditions v i) (Accepted v)
+  pub after-input : (i e : List ℕ) {r : ReadResult} {w : Parameters} → e ≡ behindRecord i → r ≡ unless Refused (inputConditions v i) (Accepted v)
       → r ≡ Accepted w → readFromInput v i ≡ readFromEnd v e
   after-input i e place answered told = reading-goes-on (inputConditions v i) v answered told _ ∙ ap (readFromEnd v) (sym place)
 

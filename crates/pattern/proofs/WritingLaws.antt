@@ -13,7 +13,7 @@ use Rattle.pattern.specs.Writer.{versionBody, smallestLength, recordsOf,
 use Rattle.pattern.specs.FrameLaws.{record-length}
 use Rattle.pattern.specs.WriterLaws.{file-length, WriteAccepted, written-accepted}
 use Rattle.pattern.specs.declared.writer.WriteResult.{WriteResult}
-use Rattle.pattern.specs.declared.writer.WriteResult.the-variants.{Length, Refused}
+use Rattle.pattern.specs.declared.writer.WriteResult.the-variants.{Written, Refused}
 use Rattle.pattern.specs.declared.parameters.Parameters.{Parameters}
 
 module _ (v : Parameters) (code input d : List ℕ) (n1 n2 n3 n4 : ℕ) where
@@ -49,9 +49,9 @@ module _ (v : Parameters) (image input d : List ℕ) where
   refused-leaves k e = (e, ap (λ (w : WriteResult). bufferAfter w (fileOf v image input) d) e)
 
   pub accepted-puts : (b : List ℕ) (n : ℕ) → WriteAccepted v image input (length d) → length (fileOf v image input) ≡ n
-      → b ≡ copied d 0 (fileOf v image input) → (Length n ≡ writeOf v image input (length d)) × (b ≡ writtenBuffer v image input d)
+      → b ≡ copied d 0 (fileOf v image input) → (Written n ≡ writeOf v image input (length d)) × (b ≡ writtenBuffer v image input d)
   accepted-puts b n w size put =
-      let e : Length (length (fileOf v image input)) ≡ writeOf v image input (length d) = sym (written-accepted v image input (length d) w) in (
-        sym (ap Length size) ∙ e,
+      let e : Written (length (fileOf v image input)) ≡ writeOf v image input (length d) = sym (written-accepted v image input (length d) w) in (
+        sym (ap Written size) ∙ e,
         put ∙ copied-front d (fileOf v image input) (w .fits) ∙ ap (λ (x : WriteResult). bufferAfter x (fileOf v image input) d) e,
       )

@@ -4,9 +4,9 @@ use mathlib.Core.Bool.{true}
 use mathlib.Core.List.{List, [], _∷_, _++_}
 use mathlib.Core.Path.{_≡_, refl}
 use lib.ListN.{length}
-use Rattle.pattern.specs.Parameters.{inRange}
+use Rattle.pattern.specs.Parameters.{isInRange}
 use Rattle.pattern.specs.Image.{padded}
-use Rattle.pattern.specs.Reader.{readOf, codeOf, inputOf}
+use Rattle.pattern.specs.Reader.{readOf, codeBodyOf, inputBodyOf}
 use Rattle.pattern.specs.Writer.{fileOf, writeOf}
 use Rattle.pattern.specs.declared.parameters.Parameters.{Parameters}
 use Rattle.pattern.specs.declared.reader.ReadResult.the-variants.{Accepted, Refused}
@@ -40,16 +40,16 @@ smallFile h l high low =
 
 pub record WorkedFiles : Type 0 where
   pub k10-values : readOf k10 ≡ Accepted (parametersWith 16 0)
-  pub k10-code : codeOf k10 ≡ k10Code
-  pub k10-input : inputOf k10 ≡ 0x41 ∷ []
+  pub k10-code : codeBodyOf k10 ≡ k10Code
+  pub k10-input : inputBodyOf k10 ≡ 0x41 ∷ []
   pub k10-file : fileOf (parametersWith 16 0) (padded 16 k10Code) (0x41 ∷ []) ≡ k10
-  pub k10-written : writeOf (parametersWith 16 0) (padded 16 k10Code) (0x41 ∷ []) 37 ≡ written.Length 37
+  pub k10-written : writeOf (parametersWith 16 0) (padded 16 k10Code) (0x41 ∷ []) 37 ≡ written.Written 37
   pub k10-no-room : writeOf (parametersWith 16 0) (padded 16 k10Code) (0x41 ∷ []) 36 ≡ written.Refused 16
   pub k10-cut : readOf (0x50 ∷ 0x56 ∷ 0x00 ∷ 0x02 ∷ 0x01 ∷ []) ≡ Refused 6
   pub k10-more : readOf (k10 ++ (0x00 ∷ [])) ≡ Refused 6
-  pub k10-body-left : codeOf (k10 ++ (0x00 ∷ [])) ≡ []
+  pub k10-body-left : codeBodyOf (k10 ++ (0x00 ∷ [])) ≡ []
   pub smallest : length (smallFile 0x00 0x10 0x00 0x00) ≡ 31
-  pub most-in-range : inRange (record { layout = record { window = 32768; input = 4096; output = 4096 }; start = record { 0 = 32767 }; quantum = 255 }) ≡ true
+  pub most-in-range : isInRange (record { layout = record { window = 32768; input = 4096; output = 4096 }; start = record { 0 = 32767 }; quantum = 255 }) ≡ true
   pub window-most : readOf (smallFile 0x80 0x00 0x00 0x00) ≡ Accepted (parametersWith 32768 0)
   pub window-above : readOf (smallFile 0x80 0x01 0x00 0x00) ≡ Refused 9
   pub window-above-written : writeOf (parametersWith 32769 0) [] [] 100 ≡ written.Refused 9

@@ -26,8 +26,8 @@ bodyOf s = partOf s frameLength (bodyLength s)
 abbrev pub recordLength : List ℕ → ℕ
 recordLength s = bodyLength s + frameLength
 
-unfoldable pub afterRecord : List ℕ → List ℕ
-afterRecord s = drop (recordLength s) s
+unfoldable pub behindRecord : List ℕ → List ℕ
+behindRecord s = drop (recordLength s) s
 
 -- the record at the front of s has the mark `P` and m, and its body is inside s
 unfoldable pub hasFrame : ℕ → List ℕ → Bool

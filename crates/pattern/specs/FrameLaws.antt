@@ -12,10 +12,10 @@ use borrow.Author.Tests.{eqb-true, leb-true, eq-eqb, le-leb}
 use Rattle.common.specs.TestLaws.{and-fact, all-fact, all-test}
 use Rattle.slices.specs.SliceLaws.{part-length, bytes-drop, bytes-take}
 use Rattle.slices.specs.Numbers.{u16Bytes}
-use Rattle.slices.specs.NumberLaws.{u16-back, u16-again}
+use Rattle.slices.specs.NumberLaws.{u16-decoded, u16-encoded}
 use Rattle.slices.specs.PieceLaws.{part-tabulated}
-use Rattle.slices.specs.Slices.{Bytes, partOf}
-use Rattle.pattern.specs.Frame.{frameLength, recordOf, bodyLength, bodyOf, recordLength, afterRecord, hasFrame, hasFrameOfLength}
+use Rattle.slices.specs.Slices.{AllBytes, partOf}
+use Rattle.pattern.specs.Frame.{frameLength, recordOf, bodyLength, bodyOf, recordLength, behindRecord, hasFrame, hasFrameOfLength}
 
 -- ---- a record that was written, with any bytes behind it
 
@@ -38,7 +38,7 @@ record-front m body rest = take-append-seam body rest
 module _ (m : ℕ) (body rest : List ℕ) where
   pub record-body-length : bodyLength (recordOf m body ++ rest) ≡ length body
   unfolding bodyLength recordOf
-  record-body-length = u16-back (length body) (body ++ rest)
+  record-body-length = u16-decoded (length body) (body ++ rest)
 
   pub record-has-frame : hasFrame m (recordOf m body ++ rest) ≡ true
   unfolding hasFrame
@@ -55,8 +55,8 @@ module _ (m : ℕ) (body rest : List ℕ) where
   unfolding bodyOf
   record-body = ap (λ (n : ℕ). take n (drop frameLength (recordOf m body ++ rest))) record-body-length ∙ record-front m body rest
 
-  pub record-rest : afterRecord (recordOf m body ++ rest) ≡ rest
-  unfolding afterRecord
+  pub record-rest : behindRecord (recordOf m body ++ rest) ≡ rest
+  unfolding behindRecord
   record-rest = rw record-body-length (drop-at (recordOf m body) rest (length body + frameLength) (record-length m body))
 
 -- ---- a frame at the front of a list
@@ -84,31 +84,31 @@ module _ (m : ℕ) (s : List ℕ) (f : FrameHolds m s) where
       let room : recordLength s ≤ length s = f .room in
       part-length s frameLength (bodyLength s) (omega arith)
 
-pub bytes-after-record : (s : List ℕ) → Bytes s → Bytes (afterRecord s)
-unfolding afterRecord
-bytes-after-record s h = bytes-drop (recordLength s) s h
+pub bytes-behind-record : (s : List ℕ) → AllBytes s → AllBytes (behindRecord s)
+unfolding behindRecord
+bytes-behind-record s h = bytes-drop (recordLength s) s h
 
-pub bytes-of-body : (s : List ℕ) → Bytes s → Bytes (bodyOf s)
+pub bytes-of-body : (s : List ℕ) → AllBytes s → AllBytes (bodyOf s)
 unfolding bodyOf
 bytes-of-body s h = bytes-take (bodyLength s) (drop frameLength s) (bytes-drop frameLength s h)
 
 -- the two parts of what follows the frame
-body-rest : (s : List ℕ) → drop frameLength s ≡ bodyOf s ++ afterRecord s
-unfolding bodyOf afterRecord
+body-rest : (s : List ℕ) → drop frameLength s ≡ bodyOf s ++ behindRecord s
+unfolding bodyOf behindRecord
 body-rest s =
     sym (take-append-drop (bodyLength s) (drop frameLength s))
     ∙ ap (λ (l : List ℕ). take (bodyLength s) (drop frameLength s) ++ l) (drop-drop (bodyLength s) frameLength s ∙ ap (λ (i : ℕ). drop i s) (add-comm frameLength (bodyLength s)))
 
 -- the bytes of a frame: mark and length
-frame-bytes : (m : ℕ) (s : List ℕ) → Bytes s → FrameHolds m s → take frameLength s ≡ 0x50 ∷ m ∷ u16Bytes (length (bodyOf s))
+frame-bytes : (m : ℕ) (s : List ℕ) → AllBytes s → FrameHolds m s → take frameLength s ≡ 0x50 ∷ m ∷ u16Bytes (length (bodyOf s))
 unfolding bodyLength
 frame-bytes m s bytes f =
     let room : recordLength s ≤ length s = f .room in
     let marks : partOf s 0 2 ≡ 0x50 ∷ m ∷ [] = sym (part-tabulated 2 s 0 (omega arith)) ∙ (λ j. f .first j ∷ f .second j ∷ []) in
-    let number : partOf s 2 2 ≡ u16Bytes (length (bodyOf s)) = sym (u16-again s bytes 2 (omega arith)) ∙ ap u16Bytes (sym (frame-body-length m s f)) in
+    let number : partOf s 2 2 ≡ u16Bytes (length (bodyOf s)) = sym (u16-encoded s bytes 2 (omega arith)) ∙ ap u16Bytes (sym (frame-body-length m s f)) in
     take-add 2 2 s ∙ (λ j. marks j ++ number j)
 
-pub frame-split : (m : ℕ) (s : List ℕ) → Bytes s → FrameHolds m s → s ≡ recordOf m (bodyOf s) ++ afterRecord s
+pub frame-split : (m : ℕ) (s : List ℕ) → AllBytes s → FrameHolds m s → s ≡ recordOf m (bodyOf s) ++ behindRecord s
 unfolding recordOf
 frame-split m s bytes f =
     sym (take-append-drop frameLength s)

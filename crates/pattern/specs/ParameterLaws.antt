@@ -8,52 +8,52 @@ use borrow.Author.Tests.{ltb-true}
 use lib.ListN.{length}
 use lib.Seq.{take-all}
 use Rattle.common.specs.LayoutLaws.{LayoutSound, layout-fact}
-use Rattle.common.specs.TestLaws.{Within, within-fact, all-fact}
-use Rattle.slices.specs.NumberLaws.{u16-back, u16-again}
+use Rattle.common.specs.TestLaws.{OneTo, one-to-fact, all-fact}
+use Rattle.slices.specs.NumberLaws.{u16-decoded, u16-encoded}
 use Rattle.slices.specs.PieceLaws.{parts-concat, part-tabulated}
-use Rattle.slices.specs.Slices.{Bytes, concat}
-use Rattle.pattern.specs.Parameters.{inRange, parametersLength, formOf, parametersBytes, parametersFromBytes}
+use Rattle.slices.specs.Slices.{AllBytes, concat}
+use Rattle.pattern.specs.Parameters.{isInRange, parametersLength, formOf, parametersBytes, parametersFromBytes}
 use Rattle.pattern.specs.declared.parameters.Parameters.{Parameters}
 
 pub record InRange (v : Parameters) : Type 0 where
   pub layout : LayoutSound (v .layout)
   pub start : v .start .0 < v .layout .window
-  pub quantum : Within (v .quantum) 255
+  pub quantum : OneTo (v .quantum) 255
 
-pub range-fact : (v : Parameters) → inRange v ≡ true → InRange v
-unfolding inRange
+pub range-fact : (v : Parameters) → isInRange v ≡ true → InRange v
+unfolding isInRange
 range-fact v h =
     let (layout, (start, (quantum, _))) = all-fact _ h in
-    record { layout = layout-fact _ layout; start = ltb-true _ _ start; quantum = within-fact _ 255 quantum }
+    record { layout = layout-fact _ layout; start = ltb-true _ _ start; quantum = one-to-fact _ 255 quantum }
 
 pub parameters-length : (v : Parameters) → length (parametersBytes v) ≡ parametersLength (formOf v)
 unfolding parametersBytes
 parameters-length v = refl
 
-pub parameters-back : (v : Parameters) → parametersFromBytes (parametersBytes v) ≡ v
+pub parameters-decoded : (v : Parameters) → parametersFromBytes (parametersBytes v) ≡ v
 unfolding parametersFromBytes parametersBytes
-parameters-back v =
+parameters-decoded v =
     λ j.
     record {
       layout =
           record {
-            window = u16-back (v .layout .window) [] j;
-            input = u16-back (v .layout .input) [] j;
-            output = u16-back (v .layout .output) [] j;
+            window = u16-decoded (v .layout .window) [] j;
+            input = u16-decoded (v .layout .input) [] j;
+            output = u16-decoded (v .layout .output) [] j;
           };
-      start = record { 0 = u16-back (v .start .0) [] j };
+      start = record { 0 = u16-decoded (v .start .0) [] j };
       quantum = v .quantum;
     }
 
-pub parameters-again : (form : ℕ) (l : List ℕ) → length l ≡ parametersLength form → Bytes l → parametersBytes (parametersFromBytes l) ≡ l
+pub parameters-encoded : (form : ℕ) (l : List ℕ) → length l ≡ parametersLength form → AllBytes l → parametersBytes (parametersFromBytes l) ≡ l
 unfolding parametersFromBytes parametersBytes
-parameters-again form l size small =
+parameters-encoded form l size small =
     (λ j.
     concat (
-    u16-again l small 0 (omega arith) j
-    ∷ u16-again l small 2 (omega arith) j
-    ∷ u16-again l small 4 (omega arith) j
-    ∷ u16-again l small 6 (omega arith) j
+    u16-encoded l small 0 (omega arith) j
+    ∷ u16-encoded l small 2 (omega arith) j
+    ∷ u16-encoded l small 4 (omega arith) j
+    ∷ u16-encoded l small 6 (omega arith) j
     ∷ part-tabulated 1 l 8 (omega arith) j
     ∷ []
     ))

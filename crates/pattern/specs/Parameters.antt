@@ -5,15 +5,15 @@ use mathlib.Core.List.{List, [], _∷_}
 use lib.Dec.{ltb}
 use lib.ListN.{getD}
 use Rattle.common.specs.Layout.{layoutSound}
-use Rattle.common.specs.Ranges.{isWithin}
+use Rattle.common.specs.Ranges.{isOneTo}
 use Rattle.common.specs.Tests.{all}
 use Rattle.slices.specs.Numbers.{u16Bytes, u16At}
 use Rattle.slices.specs.Slices.{concat}
 use Rattle.pattern.specs.declared.parameters.Parameters.{Parameters}
 
 -- a sound layout; start below the window size; quantum 1 to 255
-unfoldable pub inRange : Parameters → Bool
-inRange p = all (layoutSound (p .layout) ∷ ltb (p .start .0) (p .layout .window) ∷ isWithin (p .quantum) 255 ∷ [])
+unfoldable pub isInRange : Parameters → Bool
+isInRange p = all (layoutSound (p .layout) ∷ ltb (p .start .0) (p .layout .window) ∷ isOneTo (p .quantum) 255 ∷ [])
 
 -- the form of a pattern's file
 abbrev pub formOf : Parameters → ℕ

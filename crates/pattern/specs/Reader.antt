@@ -6,8 +6,8 @@ use mathlib.Core.Path.{_≡_}
 use lib.ListN.{length, getD}
 use lib.Dec.{ltb, eqb}
 use Rattle.common.specs.Refusals.{Condition, _gives_, unless}
-use Rattle.pattern.specs.Parameters.{inRange, parametersLength, parametersFromBytes}
-use Rattle.pattern.specs.Frame.{frameLength, bodyLength, bodyOf, recordLength, afterRecord, hasFrame, hasFrameOfLength}
+use Rattle.pattern.specs.Parameters.{isInRange, parametersLength, parametersFromBytes}
+use Rattle.pattern.specs.Frame.{frameLength, bodyLength, bodyOf, recordLength, behindRecord, hasFrame, hasFrameOfLength}
 use Rattle.pattern.specs.Image.{padded, endsInZero}
 use Rattle.pattern.specs.declared.parameters.Parameters.{Parameters}
 use Rattle.pattern.specs.declared.reader.ReadResult.{ReadResult}
@@ -15,16 +15,16 @@ use Rattle.pattern.specs.declared.reader.ReadResult.the-variants.{Accept
 
 -- the file from each record on: `PV` stands at its front
 abbrev pub fromParameters : List ℕ → List ℕ
-fromParameters s = afterRecord s
+fromParameters s = behindRecord s
 
 abbrev pub fromCode : List ℕ → List ℕ
-fromCode s = afterRecord (fromParameters s)
+fromCode s = behindRecord (fromParameters s)
 
 abbrev pub fromInput : List ℕ → List ℕ
-fromInput s = afterRecord (fromCode s)
+fromInput s = behindRecord (fromCode s)
 
 abbrev pub fromEnd : List ℕ → List ℕ
-fromEnd s = afterRecord (fromInput s)
+fromEnd s = behindRecord (fromInput s)
 
 -- the form and the board that `PV` at the front of s names
 abbrev pub formIn : List ℕ → ℕ
@@ -58,7 +58,7 @@ versionConditions s =
 unfoldable pub parametersConditions : ℕ → List ℕ → List Condition
 parametersConditions form s =
     not (hasFrameOfLength 0x42 (parametersLength form) s) gives 6
-    ∷ not (inRange (parametersIn form s)) gives 9
+    ∷ not (isInRange (parametersIn form s)) gives 9
     ∷ []
 
 -- `PC` (50h 43h): at most the window size; empty, or its last byte not zero
@@ -107,11 +107,11 @@ ifAccepted (Accepted p) body = body
 ifAccepted (Refused n) body = []
 
 -- the bodies of `PC` and of `PI`
-unfoldable pub codeOf : List ℕ → List ℕ
-codeOf s = ifAccepted (readOf s) (bodyOf (fromCode s))
+unfoldable pub codeBodyOf : List ℕ → List ℕ
+codeBodyOf s = ifAccepted (readOf s) (bodyOf (fromCode s))
 
-unfoldable pub inputOf : List ℕ → List ℕ
-inputOf s = ifAccepted (readOf s) (bodyOf (fromInput s))
+unfoldable pub inputBodyOf : List ℕ → List ℕ
+inputBodyOf s = ifAccepted (readOf s) (bodyOf (fromInput s))
 
 -- where these bodies start in the file: each record stands behind the ones before it
 abbrev pub codeOffset : List ℕ → ℕ
@@ -122,10 +122,10 @@ inputOffset s = recordLength s + recordLength (fromParameters s) + recordLength 
 
 -- the window of an accepted file: the code from address 0, the rest zero
 abbrev pub imageOf : List ℕ → List ℕ
-imageOf s = padded (parametersOf s .layout .window) (codeOf s)
+imageOf s = padded (parametersOf s .layout .window) (codeBodyOf s)
 
 -- s is accepted, and it is a file of the pattern of those parameters, window and first input
 pub record IsFile (s : List ℕ) (p : Parameters) (image input : List ℕ) : Type 0 where
   pub parameters : readOf s ≡ Accepted p
   pub window : imageOf s ≡ image
-  pub first-input : inputOf s ≡ input
+  pub first-input : inputBodyOf s ≡ input

@@ -9,19 +9,19 @@ use lib.ListN.{length, take, drop}
 use lib.Seq.{drop-drop}
 use lib.Dec.{eqb}
 use borrow.Author.Tests.{eqb-true, ltb-false, not-false}
-use Rattle.pattern.specs.Parameters.{inRange, parametersLength}
-use Rattle.pattern.specs.Frame.{frameLength, bodyLength, bodyOf, recordLength, afterRecord, hasFrame, hasFrameOfLength}
+use Rattle.pattern.specs.Parameters.{isInRange, parametersLength}
+use Rattle.pattern.specs.Frame.{frameLength, bodyLength, bodyOf, recordLength, behindRecord, hasFrame, hasFrameOfLength}
 use Rattle.pattern.specs.Image.{endsInZero}
-use Rattle.pattern.specs.Reader.{fromParameters, fromCode, fromInput, fromEnd, formIn, boardIn, parametersIn, parametersOf, versionLength, versionConditions, parametersConditions, codeConditions, inputConditions, endConditions, readOf, readRefusal, ifAccepted, codeOf, inputOf, codeOffset, inputOffset}
+use Rattle.pattern.specs.Reader.{fromParameters, fromCode, fromInput, fromEnd, formIn, boardIn, parametersIn, parametersOf, versionLength, versionConditions, parametersConditions, codeConditions, inputConditions, endConditions, readOf, readRefusal, ifAccepted, codeBodyOf, inputBodyOf, codeOffset, inputOffset}
 use Rattle.common.specs.Refusals.{Condition, unless}
-use Rattle.common.specs.RefusalLaws.{NoneHolds, Numbered, none-unless, unless-none}
+use Rattle.common.specs.RefusalLaws.{NoneHolds, NoneGivesZero, none-unless, unless-none}
 use Rattle.slices.specs.Slices.{partOf}
 use Rattle.pattern.specs.ParameterLaws.{InRange, range-fact}
 use Rattle.pattern.specs.FrameLaws.{FrameHolds, has-frame-fact, has-frame-of-length-fact, frame-body-length}
 use Rattle.pattern.specs.declared.parameters.Parameters.{Parameters}
 use Rattle.pattern.specs.declared.reader.ReadResult.{ReadResult}
 use Rattle.pattern.specs.declared.reader.ReadResult.the-variants.{Accepted, Refused}
-use Rattle.common.specs.RefusalDefinitions.{condition-definitions}
+use Rattle.common.specs.ConditionDefinitions.{condition-definitions}
 
 -- a file is accepted exactly if no condition of any record holds; the answer is then the parameters in it
 pub record NoneRefuses (s : List ℕ) (v : Parameters) : Type 0 where
@@ -79,13 +79,13 @@ version-record s h =
 pub record ParametersRecord (form : ℕ) (s : List ℕ) : Type 0 where
   pub frame : FrameHolds 0x42 s
   pub size : bodyLength s ≡ parametersLength form
-  pub range : inRange (parametersIn form s) ≡ true
+  pub range : isInRange (parametersIn form s) ≡ true
 
 pub parameters-record : (form : ℕ) (s : List ℕ) → NoneHolds (parametersConditions form s) → ParametersRecord form s
 unfolding parametersConditions
 parameters-record form s h =
     let f = has-frame-of-length-fact 0x42 (parametersLength form) s (not-false (hasFrameOfLength 0x42 (parametersLength form) s) (h .0)) in
-    record { frame = f .0; size = f .1; range = not-false (inRange (parametersIn form s)) (h .1 .0) }
+    record { frame = f .0; size = f .1; range = not-false (isInRange (parametersIn form s)) (h .1 .0) }
 
 pub record CodeRecord (v : Parameters) (s : List ℕ) : Type 0 where
   pub frame : FrameHolds 0x43 s
@@ -146,34 +146,34 @@ accepted-file s v h =
 
 -- for callers that put an accepted file to use: its parameters are in range, and its bodies fit them
 module _ (s : List ℕ) (v : Parameters) (accepted : readOf s ≡ Accepted v) where
-  pub read-in-range : inRange v ≡ true
-  read-in-range = let f = accepted-file s v accepted in subst (λ (w : Parameters). inRange w ≡ true) (f .same) (f .parameters .range)
+  pub read-in-range : isInRange v ≡ true
+  read-in-range = let f = accepted-file s v accepted in subst (λ (w : Parameters). isInRange w ≡ true) (f .same) (f .parameters .range)
 
   pub read-ranges : InRange v
   read-ranges = range-fact v read-in-range
 
-  pub code-body-is : codeOf s ≡ bodyOf (fromCode s)
-  unfolding codeOf
+  pub code-body-is : codeBodyOf s ≡ bodyOf (fromCode s)
+  unfolding codeBodyOf
   code-body-is = ap (λ (a : ReadResult). ifAccepted a (bodyOf (fromCode s))) accepted
 
-  pub input-body-is : inputOf s ≡ bodyOf (fromInput s)
-  unfolding inputOf
+  pub input-body-is : inputBodyOf s ≡ bodyOf (fromInput s)
+  unfolding inputBodyOf
   input-body-is = ap (λ (a : ReadResult). ifAccepted a (bodyOf (fromInput s))) accepted
 
-  pub code-length : length (codeOf s) ≡ bodyLength (fromCode s)
+  pub code-length : length (codeBodyOf s) ≡ bodyLength (fromCode s)
   code-length = ap length code-body-is ∙ frame-body-length 0x43 (fromCode s) (accepted-file s v accepted .code .frame)
 
-  pub input-length : length (inputOf s) ≡ bodyLength (fromInput s)
+  pub input-length : length (inputBodyOf s) ≡ bodyLength (fromInput s)
   input-length = ap length input-body-is ∙ frame-body-length 0x49 (fromInput s) (accepted-file s v accepted .input .frame)
 
-  pub code-fits : length (codeOf s) ≤ v .layout .window
+  pub code-fits : length (codeBodyOf s) ≤ v .layout .window
   code-fits =
       let f = accepted-file s v accepted in
       let small : bodyLength (fromCode s) ≤ parametersOf s .layout .window = f .code .small in
       let e : parametersOf s .layout .window ≡ v .layout .window = ap (λ (w : Parameters). w .layout .window) (f .same) in
       omega (arith, code-length)
 
-  pub input-fits : length (inputOf s) ≤ v .layout .input
+  pub input-fits : length (inputBodyOf s) ≤ v .layout .input
   input-fits =
       let f = accepted-file s v accepted in
       let small : bodyLength (fromInput s) ≤ parametersOf s .layout .input = f .input .small in
@@ -181,24 +181,24 @@ module _ (s : List ℕ) (v : Parameters) (accepted : readOf s ≡ Accepted v) wh
       omega (arith, input-length)
 
   -- they stand where the places say, and the places have two bytes
-  pub code-at : partOf s (codeOffset s) (length (codeOf s)) ≡ codeOf s
-  unfolding bodyOf afterRecord
+  pub code-at : partOf s (codeOffset s) (length (codeBodyOf s)) ≡ codeBodyOf s
+  unfolding bodyOf behindRecord
   code-at =
       sym (
       code-body-is
       ∙ ap (λ (n : ℕ). partOf (fromCode s) frameLength n) (sym code-length)
-      ∙ ap (take (length (codeOf s)))
+      ∙ ap (take (length (codeBodyOf s)))
       (ap (drop frameLength) (drop-drop (recordLength (fromParameters s)) (recordLength s) s)
       ∙ drop-drop frameLength (recordLength s + recordLength (fromParameters s)) s)
       )
 
-  pub input-at : partOf s (inputOffset s) (length (inputOf s)) ≡ inputOf s
-  unfolding bodyOf afterRecord
+  pub input-at : partOf s (inputOffset s) (length (inputBodyOf s)) ≡ inputBodyOf s
+  unfolding bodyOf behindRecord
   input-at =
       sym (
       input-body-is
       ∙ ap (λ (n : ℕ). partOf (fromInput s) frameLength n) (sym input-length)
-      ∙ ap (take (length (inputOf s)))
+      ∙ ap (take (length (inputBodyOf s)))
       (ap (λ (l : List ℕ). drop frameLength (drop (recordLength (fromCode s)) l)) (drop-drop (recordLength (fromParameters s)) (recordLength s) s)
       ∙ ap (drop frameLength) (drop-drop (recordLength (fromCode s)) (recordLength s + recordLength (fromParameters s)) s)
       ∙ drop-drop frameLength (recordLength s + recordLength (fromParameters s) + recordLength (fromCode s)) s)
@@ -209,14 +209,14 @@ module _ (s : List ℕ) (v : Parameters) (accepted : readOf s ≡ Accepted v) wh
       let f = accepted-file s v accepted in
       omega (arith, f .version .size, f .parameters .size)
 
-  pub input-offset-is : inputOffset s ≡ codeOffset s + length (codeOf s) + frameLength
+  pub input-offset-is : inputOffset s ≡ codeOffset s + length (codeBodyOf s) + frameLength
   input-offset-is = omega (arith, code-length)
 
-  pub code-ends : endsInZero (codeOf s) ≡ false
+  pub code-ends : endsInZero (codeBodyOf s) ≡ false
   code-ends = ap endsInZero code-body-is ∙ accepted-file s v accepted .code .ends
 
 -- a refusal's number is never 0: where reading gives none, the file is accepted
-unless-zero : (ks : List Condition) (a : ReadResult) → Numbered ks → readRefusal (unless Refused ks a) ≡ 0 → (unless Refused ks a ≡ a) × (readRefusal a ≡ 0)
+unless-zero : (ks : List Condition) (a : ReadResult) → NoneGivesZero ks → readRefusal (unless Refused ks a) ≡ 0 → (unless Refused ks a ≡ a) × (readRefusal a ≡ 0)
 unfolding condition-definitions
 unless-zero [] a n e = (refl, e)
 unless-zero (k ∷ ks) a n e = go (k .holds) refl e (unless-zero ks a (n .1))

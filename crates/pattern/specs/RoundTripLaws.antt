@@ -7,15 +7,15 @@ use native.Mathlib.Omega.{arith}
 use lib.ListN.{length, length-append, drop-of-length-le}
 use borrow.Author.Tests.{le-ltb}
 use Rattle.slices.specs.PieceLaws.{list-tabulated}
-use Rattle.slices.specs.Slices.{Bytes}
+use Rattle.slices.specs.Slices.{AllBytes}
 use Rattle.common.specs.RefusalLaws.{NoneHolds}
-use Rattle.pattern.specs.Parameters.{inRange, parametersBytes, parametersFromBytes}
-use Rattle.pattern.specs.Frame.{frameLength, recordOf, bodyLength, bodyOf, recordLength, afterRecord, hasFrameOfLength}
+use Rattle.pattern.specs.Parameters.{isInRange, parametersBytes, parametersFromBytes}
+use Rattle.pattern.specs.Frame.{frameLength, recordOf, bodyLength, bodyOf, recordLength, behindRecord, hasFrameOfLength}
 use Rattle.pattern.specs.Image.{endsInZero}
-use Rattle.pattern.specs.Reader.{fromParameters, fromCode, fromInput, fromEnd, formIn, parametersIn, parametersOf, versionLength, versionConditions, parametersConditions, codeConditions, inputConditions, endConditions, readOf, codeOf, inputOf}
+use Rattle.pattern.specs.Reader.{fromParameters, fromCode, fromInput, fromEnd, formIn, parametersIn, parametersOf, versionLength, versionConditions, parametersConditions, codeConditions, inputConditions, endConditions, readOf, codeBodyOf, inputBodyOf}
 use Rattle.pattern.specs.Writer.{versionBody, recordsOf}
-use Rattle.pattern.specs.ParameterLaws.{parameters-length, parameters-back, parameters-again}
-use Rattle.pattern.specs.FrameLaws.{record-length, record-body-length, record-has-frame, record-has-frame-of-length, record-body, record-rest, frame-body-length, bytes-after-record, bytes-of-body, frame-split}
+use Rattle.pattern.specs.ParameterLaws.{parameters-length, parameters-decoded, parameters-encoded}
+use Rattle.pattern.specs.FrameLaws.{record-length, record-body-length, record-has-frame, record-has-frame-of-length, record-body, record-rest, frame-body-length, bytes-behind-record, bytes-of-body, frame-split}
 use Rattle.pattern.specs.ReaderLaws.{NoneRefuses, accepted-test, VersionRecord, ParametersRecord, EndRecord, AcceptedFile, accepted-file, code-body-is, input-body-is}
 use Rattle.pattern.specs.declared.parameters.Parameters.{Parameters}
 use Rattle.pattern.specs.declared.reader.ReadResult.the-variants.{Accepted}
@@ -24,7 +24,7 @@ use Rattle.pattern.specs.declared.reader.ReadResult.the-variants.{Accept
 
 -- the parameters come back
 parameters-read : (form : ℕ) (v : Parameters) (rest : List ℕ) → parametersIn form (recordOf 0x42 (parametersBytes v) ++ rest) ≡ v
-parameters-read form v rest = ap parametersFromBytes (record-body 0x42 (parametersBytes v) rest) ∙ parameters-back v
+parameters-read form v rest = ap parametersFromBytes (record-body 0x42 (parametersBytes v) rest) ∙ parameters-decoded v
 
 -- no condition holds of a record that was written
 version-none : (v : Parameters) (rest : List ℕ) → NoneHolds (versionConditions (recordOf 0x56 (versionBody v) ++ rest))
@@ -33,7 +33,7 @@ version-none v rest =
     let body : bodyOf (recordOf 0x56 (versionBody v) ++ rest) ≡ versionBody v = record-body 0x56 (versionBody v) rest in
     (ap not (record-has-frame-of-length 0x56 (versionBody v) rest), (simp body, (simp body, tt)))
 
-parameters-none : (form : ℕ) (v : Parameters) (rest : List ℕ) → inRange v ≡ true → NoneHolds (parametersConditions form (recordOf 0x42 (parametersBytes v) ++ rest))
+parameters-none : (form : ℕ) (v : Parameters) (rest : List ℕ) → isInRange v ≡ true → NoneHolds (parametersConditions form (recordOf 0x42 (parametersBytes v) ++ rest))
 unfolding parametersConditions
 parameters-none form v rest range =
     let whole = ap (λ (n : ℕ). not (hasFrameOfLength 0x42 n (recordOf 0x42 (parametersBytes v) ++ rest))) (sym (parameters-length v)) in
@@ -57,7 +57,7 @@ unfolding endConditions
 end-none =
     (ap not (record-has-frame-of-length 0x45 [] []), (le-ltb frameLength (length (recordOf 0x45 [] ++ [])) (simp (length-append, record-length) (omega arith)), tt))
 
-module _ (v : Parameters) (code input : List ℕ) (range : inRange v ≡ true) (small : length code ≤ v .layout .window) (ends : endsInZero code ≡ false) (few : length input ≤ v .layout .input) where
+module _ (v : Parameters) (code input : List ℕ) (range : isInRange v ≡ true) (small : length code ≤ v .layout .window) (ends : endsInZero code ≡ false) (few : length input ≤ v .layout .input) where
   abbrev writtenFile : List ℕ
   writtenFile = recordsOf v code input
 
@@ -66,13 +66,13 @@ module _ (v : Parameters) (code input : List ℕ) (range : inRange v ≡ true) (
   from-parameters = record-rest 0x56 (versionBody v) _
 
   from-code : fromCode writtenFile ≡ recordOf 0x43 code ++ (recordOf 0x49 input ++ (recordOf 0x45 [] ++ []))
-  from-code = ap afterRecord from-parameters ∙ record-rest 0x42 (parametersBytes v) _
+  from-code = ap behindRecord from-parameters ∙ record-rest 0x42 (parametersBytes v) _
 
   from-input : fromInput writtenFile ≡ recordOf 0x49 input ++ (recordOf 0x45 [] ++ [])
-  from-input = ap afterRecord from-code ∙ record-rest 0x43 code _
+  from-input = ap behindRecord from-code ∙ record-rest 0x43 code _
 
   from-end : fromEnd writtenFile ≡ recordOf 0x45 [] ++ []
-  from-end = ap afterRecord from-input ∙ record-rest 0x49 input _
+  from-end = ap behindRecord from-input ∙ record-rest 0x49 input _
 
   parameters-of : parametersOf writtenFile ≡ v
   parameters-of = ap (parametersIn (formIn writtenFile)) from-parameters ∙ parameters-read (formIn writtenFile) v _
@@ -92,11 +92,11 @@ module _ (v : Parameters) (code input : List ℕ) (range : inRange v ≡ true) (
   pub read-records : readOf writtenFile ≡ Accepted v
   read-records = accepted-test writtenFile v file-accepted
 
-  pub code-of-records : codeOf writtenFile ≡ code
+  pub code-of-records : codeBodyOf writtenFile ≡ code
   code-of-records =
       code-body-is writtenFile v read-records ∙ ap bodyOf from-code ∙ record-body 0x43 code _
 
-  pub input-of-records : inputOf writtenFile ≡ input
+  pub input-of-records : inputBodyOf writtenFile ≡ input
   input-of-records =
       input-body-is writtenFile v read-records ∙ ap bodyOf from-input ∙ record-body 0x49 input _
 
@@ -106,58 +106,58 @@ version-body : (s : List ℕ) → VersionRecord s → bodyOf s ≡ 1 ∷ 1 ∷ [
 version-body s f =
     list-tabulated versionLength (bodyOf s) (frame-body-length 0x56 s (f .frame) ∙ f .size) ∙ (λ j. f .form j ∷ f .board j ∷ [])
 
-parameters-body : (form : ℕ) (s : List ℕ) → Bytes s → ParametersRecord form s → bodyOf s ≡ parametersBytes (parametersIn form s)
+parameters-body : (form : ℕ) (s : List ℕ) → AllBytes s → ParametersRecord form s → bodyOf s ≡ parametersBytes (parametersIn form s)
 parameters-body form s bytes f =
-    sym (parameters-again form (bodyOf s) (frame-body-length 0x42 s (f .frame) ∙ f .size) (bytes-of-body s bytes))
+    sym (parameters-encoded form (bodyOf s) (frame-body-length 0x42 s (f .frame) ∙ f .size) (bytes-of-body s bytes))
 
-end-alone : (s : List ℕ) → Bytes s → EndRecord s → s ≡ recordOf 0x45 [] ++ []
-unfolding afterRecord
+end-alone : (s : List ℕ) → AllBytes s → EndRecord s → s ≡ recordOf 0x45 [] ++ []
+unfolding behindRecord
 end-alone s bytes f =
     let body : bodyOf s ≡ [] = list-tabulated 0 (bodyOf s) (frame-body-length 0x45 s (f .frame) ∙ f .size) in
     frame-split 0x45 s bytes (f .frame) ∙ (λ j. recordOf 0x45 (body j) ++ no-rest s (f .size) (f .ends) j)
   where
-    no-rest : (s : List ℕ) → bodyLength s ≡ 0 → length s ≡ frameLength → afterRecord s ≡ []
+    no-rest : (s : List ℕ) → bodyLength s ≡ 0 → length s ≡ frameLength → behindRecord s ≡ []
     no-rest s e ends = drop-of-length-le s {i = recordLength s} (omega arith)
 
 -- an accepted file is the records of its parameters and bodies
-module _ (s : List ℕ) (v : Parameters) (bytes : Bytes s) (accepted : readOf s ≡ Accepted v) where
+module _ (s : List ℕ) (v : Parameters) (bytes : AllBytes s) (accepted : readOf s ≡ Accepted v) where
   abbrev asAccepted : AcceptedFile s v
   asAccepted = accepted-file s v accepted
 
-  abbrev parameters-are-bytes : Bytes (fromParameters s)
-  parameters-are-bytes = bytes-after-record s bytes
+  abbrev parameters-are-bytes : AllBytes (fromParameters s)
+  parameters-are-bytes = bytes-behind-record s bytes
 
-  abbrev code-are-bytes : Bytes (fromCode s)
-  code-are-bytes = bytes-after-record (fromParameters s) parameters-are-bytes
+  abbrev code-are-bytes : AllBytes (fromCode s)
+  code-are-bytes = bytes-behind-record (fromParameters s) parameters-are-bytes
 
-  abbrev input-are-bytes : Bytes (fromInput s)
-  input-are-bytes = bytes-after-record (fromCode s) code-are-bytes
+  abbrev input-are-bytes : AllBytes (fromInput s)
+  input-are-bytes = bytes-behind-record (fromCode s) code-are-bytes
 
-  input-part : fromInput s ≡ recordOf 0x49 (inputOf s) ++ (recordOf 0x45 [] ++ [])
+  input-part : fromInput s ≡ recordOf 0x49 (inputBodyOf s) ++ (recordOf 0x45 [] ++ [])
   input-part =
       frame-split 0x49 (fromInput s) input-are-bytes (asAccepted .input .frame)
-      ∙ ap (λ (l : List ℕ). recordOf 0x49 (bodyOf (fromInput s)) ++ l) (end-alone (fromEnd s) (bytes-after-record (fromInput s) input-are-bytes) (asAccepted .end))
+      ∙ ap (λ (l : List ℕ). recordOf 0x49 (bodyOf (fromInput s)) ++ l) (end-alone (fromEnd s) (bytes-behind-record (fromInput s) input-are-bytes) (asAccepted .end))
       ∙ ap (λ (l : List ℕ). recordOf 0x49 l ++ (recordOf 0x45 [] ++ [])) (sym (input-body-is s v accepted))
 
-  code-part : fromCode s ≡ recordOf 0x43 (codeOf s) ++ (recordOf 0x49 (inputOf s) ++ (recordOf 0x45 [] ++ []))
+  code-part : fromCode s ≡ recordOf 0x43 (codeBodyOf s) ++ (recordOf 0x49 (inputBodyOf s) ++ (recordOf 0x45 [] ++ []))
   code-part =
       frame-split 0x43 (fromCode s) code-are-bytes (asAccepted .code .frame)
       ∙ ap (λ (l : List ℕ). recordOf 0x43 (bodyOf (fromCode s)) ++ l) input-part
-      ∙ ap (λ (l : List ℕ). recordOf 0x43 l ++ (recordOf 0x49 (inputOf s) ++ (recordOf 0x45 [] ++ []))) (sym (code-body-is s v accepted))
+      ∙ ap (λ (l : List ℕ). recordOf 0x43 l ++ (recordOf 0x49 (inputBodyOf s) ++ (recordOf 0x45 [] ++ []))) (sym (code-body-is s v accepted))
 
-  parameters-part : fromParameters s ≡ recordOf 0x42 (parametersBytes v) ++ (recordOf 0x43 (codeOf s) ++ (recordOf 0x49 (inputOf s) ++ (recordOf 0x45 [] ++ [])))
+  parameters-part : fromParameters s ≡ recordOf 0x42 (parametersBytes v) ++ (recordOf 0x43 (codeBodyOf s) ++ (recordOf 0x49 (inputBodyOf s) ++ (recordOf 0x45 [] ++ [])))
   parameters-part =
       frame-split 0x42 (fromParameters s) parameters-are-bytes (asAccepted .parameters .frame)
       ∙ ap (λ (l : List ℕ). recordOf 0x42 (bodyOf (fromParameters s)) ++ l) code-part
-      ∙ ap (λ (l : List ℕ). recordOf 0x42 l ++ (recordOf 0x43 (codeOf s) ++ (recordOf 0x49 (inputOf s) ++ (recordOf 0x45 [] ++ []))))
+      ∙ ap (λ (l : List ℕ). recordOf 0x42 l ++ (recordOf 0x43 (codeBodyOf s) ++ (recordOf 0x49 (inputBodyOf s) ++ (recordOf 0x45 [] ++ []))))
       (parameters-body (formIn s) (fromParameters s) parameters-are-bytes (asAccepted .parameters) ∙ ap parametersBytes (asAccepted .same))
 
-  pub records-again : recordsOf v (codeOf s) (inputOf s) ≡ s
+  pub records-again : recordsOf v (codeBodyOf s) (inputBodyOf s) ≡ s
   unfolding recordsOf
   records-again =
       sym (
       frame-split 0x56 s bytes (asAccepted .version .frame)
       ∙ ap (λ (l : List ℕ). recordOf 0x56 (bodyOf s) ++ l) parameters-part
-      ∙ ap (λ (l : List ℕ). recordOf 0x56 l ++ (recordOf 0x42 (parametersBytes v) ++ (recordOf 0x43 (codeOf s) ++ (recordOf 0x49 (inputOf s) ++ (recordOf 0x45 [] ++ [])))))
+      ∙ ap (λ (l : List ℕ). recordOf 0x56 l ++ (recordOf 0x42 (parametersBytes v) ++ (recordOf 0x43 (codeBodyOf s) ++ (recordOf 0x49 (inputBodyOf s) ++ (recordOf 0x45 [] ++ [])))))
       (version-body s (asAccepted .version))
       )

@@ -7,10 +7,10 @@ use mathlib.Core.Path.{_≡_, refl, sym, ap, subst, _∙_}
 use native.Mathlib.Omega.{arith}
 use lib.ListN.{length, take, drop, replicate, length-replicate}
 use lib.Seq.{take-at}
-use Rattle.slices.specs.Slices.{Bytes}
-use Rattle.pattern.specs.Parameters.{inRange, formOf}
+use Rattle.slices.specs.Slices.{AllBytes}
+use Rattle.pattern.specs.Parameters.{isInRange, formOf}
 use Rattle.pattern.specs.Image.{trim, padded, endsInZero}
-use Rattle.pattern.specs.Reader.{parametersOf, readOf, codeOf, inputOf, imageOf, IsFile}
+use Rattle.pattern.specs.Reader.{parametersOf, readOf, codeBodyOf, inputBodyOf, imageOf, IsFile}
 use Rattle.pattern.specs.Writer.{recordsOf, smallestLength, fileOf, writeOf, bufferAfter, writtenBuffer}
 use Rattle.pattern.specs.ImageLaws.{trim-short, trim-ends, trim-kept, replicate-ends, padded-trim, padded-length, trim-padded}
 use Rattle.pattern.specs.ReaderLaws.{accepted-file, read-in-range, read-ranges, code-fits, input-fits, code-ends}
@@ -19,14 +19,14 @@ use Rattle.pattern.specs.RoundTripLaws.{read-records, code-of-records, i
 use Rattle.pattern.specs.declared.parameters.Parameters.{Parameters}
 use Rattle.pattern.specs.declared.reader.ReadResult.the-variants.{Accepted}
 use Rattle.pattern.specs.declared.writer.WriteResult.{WriteResult}
-use Rattle.pattern.specs.declared.writer.WriteResult.the-variants.{Length}
+use Rattle.pattern.specs.declared.writer.WriteResult.the-variants.{Written}
 
 -- a pattern that can be written: its parameters are in range, the image fills the window, the input fits
-module _ (v : Parameters) (image input : List ℕ) (range : inRange v ≡ true) (whole : length image ≡ v .layout .window) (few : length input ≤ v .layout .input) where
+module _ (v : Parameters) (image input : List ℕ) (range : isInRange v ≡ true) (whole : length image ≡ v .layout .window) (few : length input ≤ v .layout .input) where
   trimmed-fits : length (trim image) ≤ v .layout .window
   trimmed-fits = omega (arith, trim-short image)
 
-  file-code : codeOf (fileOf v image input) ≡ trim image
+  file-code : codeBodyOf (fileOf v image input) ≡ trim image
   file-code = code-of-records v (trim image) input range trimmed-fits (trim-ends image) few
 
   file-parameters : readOf (fileOf v image input) ≡ Accepted v
@@ -38,7 +38,7 @@ module _ (v : Parameters) (image input : List ℕ) (range : inRange v ≡ true) 
       record {
         parameters = file-parameters;
         window =
-            ap (λ (w : Parameters). padded (w .layout .window) (codeOf (fileOf v image input))) (accepted-file (fileOf v image input) v file-parameters .same)
+            ap (λ (w : Parameters). padded (w .layout .window) (codeBodyOf (fileOf v image input))) (accepted-file (fileOf v image input) v file-parameters .same)
             ∙ ap (padded (v .layout .window)) file-code
             ∙ ap (λ (n : ℕ). padded n (trim image)) (sym whole)
             ∙ padded-trim image;
@@ -46,8 +46,8 @@ module _ (v : Parameters) (image input : List ℕ) (range : inRange v ≡ true) 
       }
 
 -- reading what was written gives the same parameters, code and input: the first n bytes of the buffer, where writing answered the length n
-pub read-written : (v : Parameters) (image input buffer : List ℕ) (n : ℕ) → writeOf v image input (length buffer) ≡ Length n
-    → IsFile (take n (writtenBuffer v image input buffer)) v image input × (codeOf (take n (writtenBuffer v image input buffer)) ≡ trim image)
+pub read-written : (v : Parameters) (image input buffer : List ℕ) (n : ℕ) → writeOf v image input (length buffer) ≡ Written n
+    → IsFile (take n (writtenBuffer v image input buffer)) v image input × (codeBodyOf (take n (writtenBuffer v image input buffer)) ≡ trim image)
 read-written v image input buffer n h =
     let w = accepted-written v image input (length buffer) n h in
     let file : List ℕ = fileOf v image input in
@@ -55,43 +55,43 @@ read-written v image input buffer n h =
     ap (λ (x : WriteResult). take n (bufferAfter x file buffer)) h ∙ take-at file (drop n buffer) n (w .1)
     in (
       subst (λ (s : List ℕ). IsFile s v image input) (sym front) (file-is-file v image input (w .0 .range) (w .0 .whole) (w .0 .few)),
-      ap codeOf front ∙ file-code v image input (w .0 .range) (w .0 .whole) (w .0 .few),
+      ap codeBodyOf front ∙ file-code v image input (w .0 .range) (w .0 .whole) (w .0 .few),
     )
 
 -- an accepted file, of bytes
-module _ (s : List ℕ) (v : Parameters) (bytes : Bytes s) (accepted : readOf s ≡ Accepted v) where
+module _ (s : List ℕ) (v : Parameters) (bytes : AllBytes s) (accepted : readOf s ≡ Accepted v) where
   window-of : parametersOf s .layout .window ≡ v .layout .window
   window-of = ap (λ (w : Parameters). w .layout .window) (accepted-file s v accepted .same)
 
   -- is the file of its pattern
-  pub file-again : fileOf v (imageOf s) (inputOf s) ≡ s
+  pub file-again : fileOf v (imageOf s) (inputBodyOf s) ≡ s
   file-again =
-      ap (λ (code : List ℕ). recordsOf v code (inputOf s)) (trim-padded (parametersOf s .layout .window) (codeOf s) (code-ends s v accepted))
+      ap (λ (code : List ℕ). recordsOf v code (inputBodyOf s)) (trim-padded (parametersOf s .layout .window) (codeBodyOf s) (code-ends s v accepted))
       ∙ records-again s v bytes accepted
 
   -- written again into a buffer with room, it has the same bytes, and the rest of the buffer is left
   pub written-again : (buffer : List ℕ) → length s ≤ length buffer
-      → (writeOf v (imageOf s) (inputOf s) (length buffer) ≡ Length (length s))
-      × (writtenBuffer v (imageOf s) (inputOf s) buffer ≡ s ++ drop (length s) buffer)
+      → (writeOf v (imageOf s) (inputBodyOf s) (length buffer) ≡ Written (length s))
+      × (writtenBuffer v (imageOf s) (inputBodyOf s) buffer ≡ s ++ drop (length s) buffer)
   written-again buffer room =
-      let size : length (fileOf v (imageOf s) (inputOf s)) ≡ length s = ap length file-again in
-      let fits : length (codeOf s) ≤ parametersOf s .layout .window = omega (arith, code-fits s v accepted, window-of) in
-      let e : writeOf v (imageOf s) (inputOf s) (length buffer) ≡ Length (length s) =
-      written-accepted v (imageOf s) (inputOf s) (length buffer) (record {
+      let size : length (fileOf v (imageOf s) (inputBodyOf s)) ≡ length s = ap length file-again in
+      let fits : length (codeBodyOf s) ≤ parametersOf s .layout .window = omega (arith, code-fits s v accepted, window-of) in
+      let e : writeOf v (imageOf s) (inputBodyOf s) (length buffer) ≡ Written (length s) =
+      written-accepted v (imageOf s) (inputBodyOf s) (length buffer) (record {
         range = read-in-range s v accepted;
-        whole = padded-length (parametersOf s .layout .window) (codeOf s) fits ∙ window-of;
+        whole = padded-length (parametersOf s .layout .window) (codeBodyOf s) fits ∙ window-of;
         few = input-fits s v accepted;
         fits = omega arith;
       })
-      ∙ ap Length size
+      ∙ ap Written size
       in (
         e,
-        ap (λ (x : WriteResult). bufferAfter x (fileOf v (imageOf s) (inputOf s)) buffer) e ∙ ap (λ (l : List ℕ). l ++ drop (length s) buffer) file-again,
+        ap (λ (x : WriteResult). bufferAfter x (fileOf v (imageOf s) (inputBodyOf s)) buffer) e ∙ ap (λ (l : List ℕ). l ++ drop (length s) buffer) file-again,
       )
 
   -- its length is that of its two bodies and of the smallest file
-  pub accepted-length : length s ≡ smallestLength (formOf v) + length (codeOf s) + length (inputOf s)
-  accepted-length = sym (ap length (records-again s v bytes accepted)) ∙ file-length v (codeOf s) (inputOf s)
+  pub accepted-length : length s ≡ smallestLength (formOf v) + length (codeBodyOf s) + length (inputBodyOf s)
+  accepted-length = sym (ap length (records-again s v bytes accepted)) ∙ file-length v (codeBodyOf s) (inputBodyOf s)
 
   pub smallest : 31 ≤ length s
   smallest = omega (arith, accepted-length)
@@ -100,16 +100,16 @@ module _ (s : List ℕ) (v : Parameters) (bytes : Bytes s) (accepted : readOf s 
   largest = omega (arith, accepted-length, read-ranges s v accepted, code-fits s v accepted, input-fits s v accepted)
 
 -- two accepted files of one pattern are the same file
-pub one-file : (s t : List ℕ) (v : Parameters) (image input : List ℕ) → Bytes s → Bytes t → IsFile s v image input → IsFile t v image input → s ≡ t
+pub one-file : (s t : List ℕ) (v : Parameters) (image input : List ℕ) → AllBytes s → AllBytes t → IsFile s v image input → IsFile t v image input → s ≡ t
 one-file s t v image input bs bt hs ht =
-    let es : fileOf v (imageOf s) (inputOf s) ≡ s = file-again s v bs (hs .parameters) in
-    let et : fileOf v (imageOf t) (inputOf t) ≡ t = file-again t v bt (ht .parameters) in
+    let es : fileOf v (imageOf s) (inputBodyOf s) ≡ s = file-again s v bs (hs .parameters) in
+    let et : fileOf v (imageOf t) (inputBodyOf t) ≡ t = file-again t v bt (ht .parameters) in
     let window : imageOf s ≡ imageOf t = hs .window ∙ sym (ht .window) in
-    let first-input : inputOf s ≡ inputOf t = hs .first-input ∙ sym (ht .first-input) in
-    sym es ∙ ap (λ (x : List ℕ). fileOf v x (inputOf s)) window ∙ ap (fileOf v (imageOf t)) first-input ∙ et
+    let first-input : inputBodyOf s ≡ inputBodyOf t = hs .first-input ∙ sym (ht .first-input) in
+    sym es ∙ ap (λ (x : List ℕ). fileOf v x (inputBodyOf s)) window ∙ ap (fileOf v (imageOf t)) first-input ∙ et
 
 -- both bounds are reached: by a window of zeros without input, and by the largest window, with no zero in it, and the largest input
-pub smallest-reached : (v : Parameters) → inRange v ≡ true
+pub smallest-reached : (v : Parameters) → isInRange v ≡ true
     → IsFile (fileOf v (replicate (v .layout .window) 0) []) v (replicate (v .layout .window) 0) [] × (length (fileOf v (replicate (v .layout .window) 0) []) ≡ 31)
 unfolding endsInZero
 smallest-reached v range =
@@ -120,7 +120,7 @@ smallest-reached v range =
       file-length v (trim (replicate n 0)) [] ∙ ap (λ (code : List ℕ). smallestLength (formOf v) + length code + 0) none,
     )
 
-pub largest-reached : (v : Parameters) → inRange v ≡ true → v .layout .window ≡ 32768 → v .layout .input ≡ 4096
+pub largest-reached : (v : Parameters) → isInRange v ≡ true → v .layout .window ≡ 32768 → v .layout .input ≡ 4096
     → IsFile (fileOf v (replicate (v .layout .window) 1) (replicate (v .layout .input) 0)) v (replicate (v .layout .window) 1) (replicate (v .layout .input) 0)
     × (length (fileOf v (replicate (v .layout .window) 1) (replicate (v .layout .input) 0)) ≡ 36895)
 largest-reached v range window input =

@@ -6,13 +6,13 @@ use lib.ListN.{length, drop}
 use lib.Dec.{ltb, eqb}
 use Rattle.slices.specs.Slices.{concat}
 use Rattle.common.specs.Refusals.{Condition, _gives_, unless}
-use Rattle.pattern.specs.Parameters.{inRange, formOf, parametersLength, parametersBytes}
+use Rattle.pattern.specs.Parameters.{isInRange, formOf, parametersLength, parametersBytes}
 use Rattle.pattern.specs.Frame.{frameLength, recordOf}
 use Rattle.pattern.specs.Image.{trim}
 use Rattle.pattern.specs.Reader.{versionLength}
 use Rattle.pattern.specs.declared.parameters.Parameters.{Parameters}
 use Rattle.pattern.specs.declared.writer.WriteResult.{WriteResult}
-use Rattle.pattern.specs.declared.writer.WriteResult.the-variants.{Length, Refused}
+use Rattle.pattern.specs.declared.writer.WriteResult.the-variants.{Written, Refused}
 
 -- the body of `PV`: form and board
 abbrev pub versionBody : Parameters → List ℕ
@@ -41,7 +41,7 @@ fileOf p image input = recordsOf p (trim image) input
 -- what refuses the writing into a buffer of that length, in order
 unfoldable pub writeConditions : Parameters → List ℕ → List ℕ → ℕ → List Condition
 writeConditions p image input room =
-    not (inRange p) gives 9
+    not (isInRange p) gives 9
     ∷ not (eqb (length image) (p .layout .window)) gives 9
     ∷ ltb (p .layout .input) (length input) gives 11
     ∷ ltb room (length (fileOf p image input)) gives 16
@@ -49,16 +49,16 @@ writeConditions p image input room =
 
 -- what writing answers: the file's length, or the refusal
 unfoldable pub writeOf : Parameters → List ℕ → List ℕ → ℕ → WriteResult
-writeOf p image input room = unless Refused (writeConditions p image input room) (Length (length (fileOf p image input)))
+writeOf p image input room = unless Refused (writeConditions p image input room) (Written (length (fileOf p image input)))
 
 -- the number of a refusal, 0 where there is none
 abbrev pub writeRefusal : WriteResult → ℕ
-writeRefusal (Length n) = 0
+writeRefusal (Written n) = 0
 writeRefusal (Refused n) = n
 
 -- the buffer after that answer: the file at its front and the rest left, or all of it left
 abbrev pub bufferAfter : WriteResult → List ℕ → List ℕ → List ℕ
-bufferAfter (Length n) file d = file ++ drop n d
+bufferAfter (Written n) file d = file ++ drop n d
 bufferAfter (Refused n) file d = d
 
 -- what the buffer d holds after the writing

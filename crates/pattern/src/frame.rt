@@ -9,7 +9,7 @@ ghost use mathlib.Core.Path.{_≡_};
 ghost use Prim.Native.Nat.{_+_, _≤_, _<_};
 ghost use lib.ListN.{length};
 ghost use Rattle.slices.specs.Slices.{copied};
-ghost use Rattle.pattern.specs.Frame.{frameLength, recordOf, bodyLength, bodyOf, recordLength, afterRecord, hasFrame, hasFrameOfLength};
+ghost use Rattle.pattern.specs.Frame.{frameLength, recordOf, bodyLength, bodyOf, recordLength, behindRecord, hasFrame, hasFrameOfLength};
 
 // What `PV` holds: the form and the board.
 pub(crate) const FORM: u8 = 1;
@@ -45,8 +45,8 @@ pub(crate) fn record_length(s: &[u8]) -> usize
 }
 
 // What follows the record at the front of `s`.
-pub(crate) fn after_record(s: &[u8]) -> &[u8]
-    ensures { λ r. ⌜ now r ≡ afterRecord (now (s .entry)) ⌝ }
+pub(crate) fn behind_record(s: &[u8]) -> &[u8]
+    ensures { λ r. ⌜ now r ≡ behindRecord (now (s .entry)) ⌝ }
 {
     rest(s, record_length(s))
 }

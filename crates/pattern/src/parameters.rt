@@ -1,6 +1,6 @@
 // The parameters of a pattern, their ranges, and how they look as bytes.
 ghost use mathlib.Core.Path.{_≡_};
-ghost use Rattle.pattern.specs.Parameters.{inRange, parametersFromBytes, parametersBytes};
+ghost use Rattle.pattern.specs.Parameters.{isInRange, parametersFromBytes, parametersBytes};
 use common::Address;
 use common::Layout;
 use slices::byte;
@@ -21,14 +21,14 @@ impl Parameters {
 }
 
 // Whether each value is in its range.
-pub(crate) fn in_range(parameters: Parameters) -> bool
-    ensures { λ r. ⌜ r ≡ inRange parameters ⌝ }
+pub(crate) fn is_in_range(parameters: Parameters) -> bool
+    ensures { λ r. ⌜ r ≡ isInRange parameters ⌝ }
 {
     let layout = parameters.layout;
     let start = parameters.start;
     layout.is_sound()
         & (start.0 < layout.window)
-        & common::is_within(parameters.quantum as usize, 255)
+        & common::is_one_to(parameters.quantum as usize, 255)
 }
 
 // The body of `PB` for those parameters.

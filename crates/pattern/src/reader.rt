@@ -3,7 +3,7 @@ use crate::frame::BOARD;
 use crate::frame::FORM;
 use crate::frame::FRAME_LENGTH;
 use crate::frame::VERSION_LENGTH;
-use crate::frame::after_record;
+use crate::frame::behind_record;
 use crate::frame::body;
 use crate::frame::body_length;
 use crate::frame::has_frame;
@@ -12,7 +12,7 @@ use crate::frame::record_length;
 use crate::image::ends_in_zero;
 use crate::parameters::Parameters;
 use crate::parameters::decode_parameters;
-use crate::parameters::in_range;
+use crate::parameters::is_in_range;
 use common::Address;
 use common::Layout;
 use slices::byte;
@@ -20,7 +20,7 @@ use slices::front;
 ghost use mathlib.Core.Path.{_≡_};
 ghost use Rattle.common.specs.Refusals.{unless};
 ghost use Rattle.pattern.specs.Frame.{bodyOf};
-ghost use Rattle.pattern.specs.Reader.{noParameters, parametersIn, versionConditions, parametersConditions, codeConditions, inputConditions, endConditions, readOf, readRefusal, ifAccepted, codeOf, inputOf, codeOffset, inputOffset};
+ghost use Rattle.pattern.specs.Reader.{noParameters, parametersIn, versionConditions, parametersConditions, codeConditions, inputConditions, endConditions, readOf, readRefusal, ifAccepted, codeBodyOf, inputBodyOf, codeOffset, inputOffset};
 
 // The parameters, or the number of the refusal.
 pub enum ReadResult {
@@ -74,7 +74,7 @@ fn read_parameters(s: &[u8]) -> ReadResult
         return ReadResult::Refused(6);
     }
     let parameters = decode_parameters(body(s));
-    if !in_range(parameters) {
+    if !is_in_range(parameters) {
         return ReadResult::Refused(9);
     }
     ReadResult::Accepted(parameters)
@@ -132,22 +132,22 @@ pub fn read(file: &[u8]) -> ReadResult
     let ReadResult::Accepted(_) = first else {
         return first;
     };
-    let from_parameters = after_record(file);
+    let from_parameters = behind_record(file);
     let second = read_parameters(from_parameters);
     let ReadResult::Accepted(parameters) = second else {
         return second;
     };
-    let from_code = after_record(from_parameters);
+    let from_code = behind_record(from_parameters);
     let third = read_code(from_code, parameters);
     let ReadResult::Accepted(_) = third else {
         return third;
     };
-    let from_input = after_record(from_code);
+    let from_input = behind_record(from_code);
     let fourth = read_input(from_input, parameters);
     let ReadResult::Accepted(_) = fourth else {
         return fourth;
     };
-    let fifth = read_end(after_record(from_input), parameters);
+    let fifth = read_end(behind_record(from_input), parameters);
     let ReadResult::Accepted(_) = fifth else {
         return fifth;
     };
@@ -167,32 +167,32 @@ fn accepted_body<'a>(file: &[u8], from: &'a [u8]) -> &'a [u8]
 
 // The body of `PC` as a part of the file itself, empty if the file is refused.
 pub fn code_body(file: &[u8]) -> &[u8]
-    ensures { λ r. ⌜ now r ≡ codeOf (now (file .entry)) ⌝ }
+    ensures { λ r. ⌜ now r ≡ codeBodyOf (now (file .entry)) ⌝ }
 {
-    accepted_body(file, after_record(after_record(file)))
+    accepted_body(file, behind_record(behind_record(file)))
 }
 
 // The body of `PI` as a part of the file itself, empty if the file is refused.
 pub fn input_body(file: &[u8]) -> &[u8]
-    ensures { λ r. ⌜ now r ≡ inputOf (now (file .entry)) ⌝ }
+    ensures { λ r. ⌜ now r ≡ inputBodyOf (now (file .entry)) ⌝ }
 {
-    accepted_body(file, after_record(after_record(after_record(file))))
+    accepted_body(file, behind_record(behind_record(behind_record(file))))
 }
 
 // Where the body of `PC` starts in the file, if the file is accepted.
 pub fn code_offset(file: &[u8]) -> usize
     ensures { λ n. ⌜ n ≡ codeOffset (now (file .entry)) ⌝ }
 {
-    record_length(file) + record_length(after_record(file)) + FRAME_LENGTH
+    record_length(file) + record_length(behind_record(file)) + FRAME_LENGTH
 }
 
 // Where the body of `PI` starts in the file, if the file is accepted.
 pub fn input_offset(file: &[u8]) -> usize
     ensures { λ n. ⌜ n ≡ inputOffset (now (file .entry)) ⌝ }
 {
-    let from_parameters = after_record(file);
+    let from_parameters = behind_record(file);
     record_length(file)
         + record_length(from_parameters)
-        + record_length(after_record(from_parameters))
+        + record_length(behind_record(from_parameters))
         + FRAME_LENGTH
 }

@@ -7,7 +7,7 @@ use crate::frame::put_record;
 use crate::image::trim;
 use crate::parameters::Parameters;
 use crate::parameters::encode_parameters;
-use crate::parameters::in_range;
+use crate::parameters::is_in_range;
 ghost use mathlib.Core.Path.{_≡_};
 ghost use Prim.Native.Nat.{_+_, _≤_, _<_};
 ghost use lib.ListN.{length};
@@ -20,7 +20,7 @@ const MIN_FILE: usize = 5 * FRAME_LENGTH + VERSION_LENGTH + Parameters::LENGTH;
 
 // The length of the written file, or the number of the refusal.
 pub enum WriteResult {
-    Length(usize),
+    Written(usize),
     Refused(u8),
 }
 
@@ -30,7 +30,7 @@ impl WriteResult {
         ensures { λ r. ⌜ r ≡ writeRefusal self ⌝ }
     {
         match self {
-            WriteResult::Length(_) => 0,
+            WriteResult::Written(_) => 0,
             WriteResult::Refused(refusal) => refusal,
         }
     }
@@ -45,18 +45,18 @@ fn put_records(parameters: Parameters, code: &[u8], input: &[u8], buffer: &mut [
 {
     let version = [FORM, BOARD];
     let bytes = encode_parameters(parameters);
-    let from_parameters = put_record(b'V', &version, buffer, 0);
-    let from_code = put_record(b'B', &bytes, buffer, from_parameters);
-    let from_input = put_record(b'C', code, buffer, from_code);
-    let from_end = put_record(b'I', input, buffer, from_input);
-    put_record(b'E', b"", buffer, from_end);
+    let parameters_at = put_record(b'V', &version, buffer, 0);
+    let code_at = put_record(b'B', &bytes, buffer, parameters_at);
+    let input_at = put_record(b'C', code, buffer, code_at);
+    let end_at = put_record(b'I', input, buffer, input_at);
+    put_record(b'E', b"", buffer, end_at);
 }
 
 // Writes the file of a pattern to the front of `buffer`, and leaves the rest; a refusal leaves all of it.
 pub fn write(parameters: Parameters, image: &[u8], input: &[u8], buffer: &mut [u8]) -> WriteResult
     ensures { λ r. ⌜ (r ≡ writeOf parameters (now (image .entry)) (now (input .entry)) (length (now (buffer .entry)))) × (now (buffer .exit) ≡ writtenBuffer parameters (now (image .entry)) (now (input .entry)) (now (buffer .entry))) ⌝ }
 {
-    if !in_range(parameters) {
+    if !is_in_range(parameters) {
         return WriteResult::Refused(9);
     }
     let layout = parameters.layout;
@@ -72,5 +72,5 @@ pub fn write(parameters: Parameters, image: &[u8], input: &[u8], buffer: &mut [u
         return WriteResult::Refused(16);
     }
     put_records(parameters, code, input, buffer);
-    WriteResult::Length(total)
+    WriteResult::Written(total)
 }

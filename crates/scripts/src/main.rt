@@ -265,7 +265,7 @@ fn print_difference(entry: &[u8], script: u64, refusal: u8) {
     print_number(b"differs: script ", script);
     print_number(b", line ", line(entry) as u64);
     print_number(b", wanted ", wanted(entry) as u64);
-    print_number(b", result_of_call ", refusal as u64);
+    print_number(b", answered ", refusal as u64);
     print(b"\n");
 }
 

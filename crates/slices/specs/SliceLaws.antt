@@ -11,7 +11,7 @@ use lib.Seq.{take-at, drop-at, take-nil, drop-nil, drop-drop, take-add, take-tak
 use lib.Dec.{leb}
 use borrow.Author.Tests.{leb-true, le-leb, lt-leb}
 use Rattle.common.specs.Choice.{if_then_else_}
-use Rattle.slices.specs.Slices.{Bytes, partOf, copied}
+use Rattle.slices.specs.Slices.{AllBytes, partOf, copied}
 
 -- a part is the end of a front
 pub part-front : (s : List ℕ) (at n : ℕ) → partOf s at n ≡ drop at (take (at + n) s)
@@ -24,8 +24,8 @@ pub part-length : (s : List ℕ) (at n : ℕ) → at + n ≤ length s → length
 part-length s at n h = length-take-le n (drop at s) (simp length-drop (omega arith))
 
 -- a front and a rest of bytes are bytes
-pub bytes-take : (n : ℕ) (s : List ℕ) → Bytes s → Bytes (take n s)
-unfolding Bytes
+pub bytes-take : (n : ℕ) (s : List ℕ) → AllBytes s → AllBytes (take n s)
+unfolding AllBytes
 bytes-take n s h i = go (decLt i n)
   where
     go : Dec (i < n) → getD (take n s) i 0 < 256
@@ -34,8 +34,8 @@ bytes-take n s h i = go (decLt i n)
         let e : getD (take n s) i 0 ≡ 0 = List·getD-eq-default (take n s) 0 {n = i} (simp length-take (omega arith)) in
         omega arith
 
-pub bytes-drop : (n : ℕ) (s : List ℕ) → Bytes s → Bytes (drop n s)
-unfolding Bytes
+pub bytes-drop : (n : ℕ) (s : List ℕ) → AllBytes s → AllBytes (drop n s)
+unfolding AllBytes
 bytes-drop n s h i = subst⁻¹ (λ (x : ℕ). x < 256) (getD-drop n s i 0) (h (n + i))
 
 -- with room the source stands in the list, and without it the list is left

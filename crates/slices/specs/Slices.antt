@@ -6,8 +6,8 @@ use lib.Dec.{leb}
 use Rattle.common.specs.Choice.{if_then_else_}
 
 -- each element is a byte, as in every slice of bytes
-unfoldable pub Bytes : List ℕ → Type 0
-Bytes s = (i : ℕ) → getD s i 0 < 256
+unfoldable pub AllBytes : List ℕ → Type 0
+AllBytes s = (i : ℕ) → getD s i 0 < 256
 
 -- the n bytes of s from at on, or as many as there are
 abbrev pub partOf : List ℕ → ℕ → ℕ → List ℕ

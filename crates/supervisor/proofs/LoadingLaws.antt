@@ -14,9 +14,9 @@ use Rattle.pattern.specs.declared.parameters.Parameters.{Parameters}
 use Rattle.supervisor.specs.Calls.{load, change, changeConditions, refusal}
 use Rattle.supervisor.specs.ConditionLaws.{SoundSystem, vacant-numbered, vacant-slot}
 use Rattle.supervisor.specs.System.{System}
-use Rattle.supervisor.specs.Conditions.{memoryConditions, emptyConditions}
-use Rattle.supervisor.specs.Loading.{fileConditions, placeConditions, partitionFor}
-use Rattle.common.specs.RefusalDefinitions.{condition-definitions}
+use Rattle.supervisor.specs.Conditions.{systemConditions, emptySlotConditions}
+use Rattle.supervisor.specs.Loading.{fileConditions, locationConditions, partitionFor}
+use Rattle.common.specs.ConditionDefinitions.{condition-definitions}
 
 -- a refused file has a number
 read-some : (s : List ℕ) (n : ℕ) → readOf s ≡ Refused n → n ≡ 0 → ⊥
@@ -25,15 +25,15 @@ read-some s n e none = refused-accepted n (sym e ∙ read-zero s (ap readRefusal
 -- ---- the conditions in parts
 
 abbrev vacantConditions : System → ℕ → List Condition
-vacantConditions x k = memoryConditions x ++ emptyConditions (x .table) k
+vacantConditions x k = systemConditions x ++ emptySlotConditions (x .table) k
 
 module _ (x : System) (k : ℕ) where
-  pub vacant-accepted : {n : ℕ} → n ≡ refusalBy (memoryConditions x ++ emptyConditions (x .table) k) → n ≡ 0 → SoundSystem x × (k < 8)
+  pub vacant-accepted : {n : ℕ} → n ≡ refusalBy (systemConditions x ++ emptySlotConditions (x .table) k) → n ≡ 0 → SoundSystem x × (k < 8)
   vacant-accepted e none = vacant-slot x k (none-holds (vacantConditions x k) (vacant-numbered x k) (sym e ∙ none))
 
-  module _ (location : Location) (file : List ℕ) {n : ℕ} (e : n ≡ refusalBy (memoryConditions x ++ emptyConditions (x .table) k)) where
+  module _ (location : Location) (file : List ℕ) {n : ℕ} (e : n ≡ refusalBy (systemConditions x ++ emptySlotConditions (x .table) k)) where
     abbrev ownConditions : List Condition
-    ownConditions = fileConditions file ++ placeConditions (x .table) k (partitionFor location (parametersOf file))
+    ownConditions = fileConditions file ++ locationConditions (x .table) k (partitionFor location (parametersOf file))
 
     pub load-stops : (n ≡ 0 → ⊥) → n ≡ refusal (change k (load location file)) x
     unfolding refusal changeConditions
@@ -54,7 +54,7 @@ module _ (x : System) (k : ℕ) where
         (is ∙ sym (load-goes none ∙ rw (r, ne-eqb m 0 some)), λ z. some (sym is ∙ z))
 
     pub load-places : {v : Parameters} → n ≡ 0 → (a : ReadResult) → a ≡ readOf file → a ≡ Accepted v
-        → refusal (change k (load location file)) x ≡ refusalBy (placeConditions (x .table) k (partitionFor location v))
+        → refusal (change k (load location file)) x ≡ refusalBy (locationConditions (x .table) k (partitionFor location v))
     unfolding condition-definitions fileConditions
     load-places {v} none a read q =
         let r : readOf file ≡ Accepted v = sym read ∙ q in

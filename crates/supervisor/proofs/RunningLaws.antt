@@ -17,10 +17,10 @@ use Rattle.cpu.specs.declared.state.State.{State}
 use Rattle.slices.specs.SliceLaws.{copied-whole}
 use Rattle.slices.specs.Slices.{partOf, copied}
 use Rattle.supervisor.specs.Calls.{run, refusal, afterAccepted}
-use Rattle.supervisor.specs.ConditionLaws.{SoundSystem, memory-numbered, memory-sound}
+use Rattle.supervisor.specs.ConditionLaws.{SoundSystem, system-numbered, system-sound}
 use Rattle.supervisor.specs.SlotMachineLaws.{bytes-again}
 use Rattle.supervisor.specs.System.{System, system, slotOf, patched, machineIn}
-use Rattle.supervisor.specs.Conditions.{memoryConditions}
+use Rattle.supervisor.specs.Conditions.{systemConditions}
 use Rattle.supervisor.specs.Running.{machineBytes, afterQuantum, slotQuantum, slotQuanta, afterRun}
 use Rattle.supervisor.specs.PatchLaws.{slot-inside}
 use Rattle.supervisor.specs.RoundLaws.{resting-quantum, quanta-running, rounds-running}
@@ -63,8 +63,8 @@ quantum-taken t memory memory' k r e f =
     ∙ ap (system (withSlot t k (slotWithState (slotAt t k) (afterQuantum (slotAt t k) memory .state)))) f
 
 -- a slot that does not run is left
-pub quantum-passed : (x : System) → SoundSystem x → (k : ℕ) → k < 8 → (slotOf x k .state .status ≡ 1 → ⊥) → x ≡ slotQuantum k x
-quantum-passed x g k q n = sym (resting-quantum x k (slot-inside x g k q) n)
+pub quantum-skipped : (x : System) → SoundSystem x → (k : ℕ) → k < 8 → (slotOf x k .state .status ≡ 1 → ⊥) → x ≡ slotQuantum k x
+quantum-skipped x g k q n = sym (resting-quantum x k (slot-inside x g k q) n)
 
 pub quanta-zero : (x : System) → x ≡ slotQuanta 0 x
 unfolding slotQuanta
@@ -98,7 +98,7 @@ start-sound t memory s l = record { table = table-fact t s; fits = l }
 
 -- ---- the call
 
-pub run-refusal : (count : ℕ) (x : System) → refusalBy (memoryConditions x) ≡ refusal (run count) x
+pub run-refusal : (count : ℕ) (x : System) → refusalBy (systemConditions x) ≡ refusal (run count) x
 unfolding refusal
 run-refusal count x = refl
 
@@ -107,7 +107,7 @@ unfolding afterAccepted
 accepted-run count x = refl
 
 -- an accepted run has a sound table with its memory
-pub run-refusal-sound : (x : System) {n : ℕ} → n ≡ refusalBy (memoryConditions x) → n ≡ 0 → (tableSound (x .table) ≡ true) × (length (x .memory) ≡ x .table .size)
+pub run-refusal-sound : (x : System) {n : ℕ} → n ≡ refusalBy (systemConditions x) → n ≡ 0 → (tableSound (x .table) ≡ true) × (length (x .memory) ≡ x .table .size)
 run-refusal-sound x e none =
-    let g : SoundSystem x = memory-sound x (none-holds (memoryConditions x) (memory-numbered x) (sym e ∙ none)) in
+    let g : SoundSystem x = system-sound x (none-holds (systemConditions x) (system-numbered x) (sym e ∙ none)) in
     (table-test (x .table) (g .table), g .fits)

@@ -1,31 +1,31 @@
 -- Names for lists of definitions, which laws and worked cases open together. Nothing here has to be believed.
 use Rattle.common.specs.Choice.{if_then_else_}
 use Rattle.common.specs.Layout.{layoutSound}
-use Rattle.common.specs.RefusalDefinitions.{condition-definitions}
+use Rattle.common.specs.ConditionDefinitions.{condition-definitions}
 use Rattle.common.specs.Repetition.{times}
-use Rattle.common.specs.Tests.{allAfter, allBelow}
+use Rattle.common.specs.Tests.{andAll, allBelow}
 use Rattle.cpu.specs.Cpu.{freshCpu}
 use Rattle.loader.specs.Fresh.{freshState}
 use Rattle.slices.specs.Slices.{copied}
 use Rattle.supervisor.specs.Calls.{afterAccepted, afterCall, changeConditions, drainedBuffer, drainedCount, outcomeOf, patchOf, queryConditions, refusal}
-use Rattle.supervisor.specs.Conditions.{emptyConditions, loadedConditions, memoryConditions, tableConditions}
+use Rattle.supervisor.specs.Conditions.{emptySlotConditions, loadedSlotConditions, systemConditions, tableConditions}
 use Rattle.supervisor.specs.Draining.{drainConditions, drainPatch, drainedState}
 use Rattle.supervisor.specs.Feeding.{fedState, feedConditions, feedPatch}
-use Rattle.supervisor.specs.Loading.{fileConditions, loadPatch, partitionFor, placeConditions}
+use Rattle.supervisor.specs.Loading.{fileConditions, loadPatch, partitionFor, locationConditions}
 use Rattle.supervisor.specs.Running.{afterRun, slotQuanta, slotQuantum}
-use Rattle.supervisor.specs.Sound.{allFifteenBits, allZero, areApart, clearOfOthers, partitionSound, slotSound, stateSound, tableSound, isZeroPartition, isZeroState}
+use Rattle.supervisor.specs.Sound.{allFifteenBits, allZero, areApart, isClearOfOthers, partitionSound, slotSound, stateSound, tableSound, isZeroPartition, isZeroState}
 use Rattle.supervisor.specs.System.{machineIn, patched}
 use Rattle.supervisor.specs.Table.{emptySlot, slotAt, withSlot}
 use Rattle.supervisor.specs.Unloading.{unloadPatch}
 
 -- which tables are sound, and an empty slot
 unfoldable pub sound-definitions : Type 0
-unfolding tableSound slotSound partitionSound stateSound isZeroPartition isZeroState allZero allFifteenBits clearOfOthers areApart slotAt layoutSound allAfter allBelow emptySlot freshCpu
+unfolding tableSound slotSound partitionSound stateSound isZeroPartition isZeroState allZero allFifteenBits isClearOfOthers areApart slotAt layoutSound andAll allBelow emptySlot freshCpu
 sound-definitions = Unit {0}
 
 -- what refuses a call
 unfoldable pub refusal-definitions : Type 0
-unfolding condition-definitions refusal changeConditions queryConditions tableConditions memoryConditions emptyConditions loadedConditions fileConditions placeConditions feedConditions drainConditions
+unfolding condition-definitions refusal changeConditions queryConditions tableConditions systemConditions emptySlotConditions loadedSlotConditions fileConditions locationConditions feedConditions drainConditions
 refusal-definitions = Unit {0}
 
 -- an accepted change at a slot, as a patch of it

@@ -10,8 +10,8 @@ use Rattle.common.specs.Refusals.{Condition, refusalBy}
 use Rattle.common.specs.declared.places.Location.{Location}
 use Rattle.pattern.specs.Reader.{parametersOf}
 use Rattle.supervisor.specs.System.{System, system, slotOf, Patch, patched}
-use Rattle.supervisor.specs.Conditions.{tableConditions, memoryConditions, emptyConditions, loadedConditions}
-use Rattle.supervisor.specs.Loading.{fileConditions, placeConditions, partitionFor, loadPatch}
+use Rattle.supervisor.specs.Conditions.{tableConditions, systemConditions, emptySlotConditions, loadedSlotConditions}
+use Rattle.supervisor.specs.Loading.{fileConditions, locationConditions, partitionFor, loadPatch}
 use Rattle.supervisor.specs.Feeding.{feedConditions, feedPatch}
 use Rattle.supervisor.specs.Draining.{drainConditions, drainPatch, writtenBytes}
 use Rattle.supervisor.specs.Unloading.{unloadPatch}
@@ -43,23 +43,23 @@ pub data Call : Type 0 where
 
 unfoldable pub changeConditions : Change → System → ℕ → List Condition
 changeConditions (load location file) x k =
-    memoryConditions x ++ emptyConditions (x .table) k ++ (fileConditions file ++ placeConditions (x .table) k (partitionFor location (parametersOf file)))
-changeConditions unload x k = memoryConditions x ++ loadedConditions (x .table) k
-changeConditions (feed bytes) x k = memoryConditions x ++ loadedConditions (x .table) k ++ feedConditions (slotOf x k) bytes
-changeConditions (drain room) x k = memoryConditions x ++ loadedConditions (x .table) k ++ drainConditions (slotOf x k) room
+    systemConditions x ++ emptySlotConditions (x .table) k ++ (fileConditions file ++ locationConditions (x .table) k (partitionFor location (parametersOf file)))
+changeConditions unload x k = systemConditions x ++ loadedSlotConditions (x .table) k
+changeConditions (feed bytes) x k = systemConditions x ++ loadedSlotConditions (x .table) k ++ feedConditions (slotOf x k) bytes
+changeConditions (drain room) x k = systemConditions x ++ loadedSlotConditions (x .table) k ++ drainConditions (slotOf x k) room
 
 unfoldable pub queryConditions : Query → Table → List Condition
-queryConditions (report k) t = tableConditions t ++ loadedConditions t k
+queryConditions (report k) t = tableConditions t ++ loadedSlotConditions t k
 
 -- the number that refuses a call, 0 if it is accepted
 unfoldable pub refusal : Call → System → ℕ
 refusal (change k c) x = refusalBy (changeConditions c x k)
-refusal (run n) x = refusalBy (memoryConditions x)
+refusal (run n) x = refusalBy (systemConditions x)
 refusal (query q) x = refusalBy (queryConditions q (x .table))
 
 -- nothing refuses the call
-abbrev pub accepted : Call → System → Bool
-accepted c x = eqb (refusal c x) 0
+abbrev pub isAccepted : Call → System → Bool
+isAccepted c x = eqb (refusal c x) 0
 
 -- ---- what a call leaves
 
@@ -78,7 +78,7 @@ afterAccepted (query q) x = x
 
 -- a refused call hands back the table that it was given, and changes no byte
 unfoldable pub afterCall : Call → System → System
-afterCall c x = if accepted c x then afterAccepted c x else x
+afterCall c x = if isAccepted c x then afterAccepted c x else x
 
 -- what a call answers and leaves, as one value: every contract of an operation is an equation of this
 pub record Outcome : Type 0 where
@@ -91,15 +91,15 @@ outcome n t memory = record { refusal = n; after = system t memory }
 unfoldable pub outcomeOf : Call → System → Outcome
 outcomeOf c x = record { refusal = refusal c x; after = afterCall c x }
 
--- ---- what a call hands over beside
+-- ---- what a drain and a report hand over
 
 -- how many bytes are drained, and the buffer afterwards; a refusal drains none and leaves it
 unfoldable pub drainedCount : System → ℕ → ℕ → ℕ
-drainedCount x k room = if accepted (change k (drain room)) x then slotOf x k .state .written else 0
+drainedCount x k room = if isAccepted (change k (drain room)) x then slotOf x k .state .written else 0
 
 unfoldable pub drainedBuffer : System → ℕ → List ℕ → List ℕ
 drainedBuffer x k buffer =
-    if accepted (change k (drain (length buffer))) x
+    if isAccepted (change k (drain (length buffer))) x
     then writtenBytes (slotOf x k) (x .memory) ++ drop (slotOf x k .state .written) buffer
     else buffer
 

@@ -12,7 +12,7 @@ use Rattle.common.specs.Choice.{if_then_else_}
 use Rattle.common.specs.Layout.{layoutSize}
 use Rattle.common.specs.RefusalLaws.{zero-parts, none-holds, refusal-parts}
 use Rattle.common.specs.Refusals.{Condition, refusalBy}
-use Rattle.common.specs.TestLaws.{or-false, Within}
+use Rattle.common.specs.TestLaws.{or-false, OneTo}
 use Rattle.common.specs.declared.layout.Layout.{Layout}
 use Rattle.common.specs.declared.places.Location.{Location}
 use Rattle.cpu.specs.Result.{lastStatus}
@@ -25,10 +25,10 @@ use Rattle.pattern.specs.ReaderLaws.{read-zero, read-ranges, input-fits}
 use Rattle.pattern.specs.ParameterLaws.{InRange}
 use Rattle.pattern.specs.declared.reader.ReadResult.the-variants.{Accepted}
 use Rattle.supervisor.specs.Calls.{Change, load, unload, feed, drain, change, changeConditions, refusal, patchOf, outcome, outcomeOf}
-use Rattle.supervisor.specs.ConditionLaws.{SoundSystem, HoldsPattern, ReadySlot, file-numbered, place-numbered, vacant-numbered, vacant-slot, ready-parts, refusal-ready}
+use Rattle.supervisor.specs.ConditionLaws.{SoundSystem, HoldsPattern, ReadySlot, file-numbered, location-numbered, vacant-numbered, vacant-slot, ready-parts, refusal-ready}
 use Rattle.supervisor.specs.System.{System, slotOf}
-use Rattle.supervisor.specs.Conditions.{memoryConditions, emptyConditions}
-use Rattle.supervisor.specs.Loading.{fileConditions, placeConditions, partitionFor, loadPatch}
+use Rattle.supervisor.specs.Conditions.{systemConditions, emptySlotConditions}
+use Rattle.supervisor.specs.Loading.{fileConditions, locationConditions, partitionFor, loadPatch}
 use Rattle.supervisor.specs.Feeding.{feedConditions, fedState, feedPatch}
 use Rattle.supervisor.specs.Draining.{drainConditions, drainedState, drainPatch}
 use Rattle.supervisor.specs.Table.{emptySlot, partitionEnd}
@@ -43,7 +43,7 @@ use Rattle.supervisor.specs.declared.table.Partition.{Partition}
 use Rattle.supervisor.specs.declared.table.Slot.{Slot}
 use Rattle.supervisor.specs.declared.table.Table.{Table}
 use Rattle.supervisor.specs.CallDefinitions.{sound-definitions}
-use Rattle.common.specs.RefusalDefinitions.{condition-definitions}
+use Rattle.common.specs.ConditionDefinitions.{condition-definitions}
 
 -- ---- load
 
@@ -55,12 +55,12 @@ pub record LoadAccepted (x : System) (k : ℕ) (location : Location) (file : Lis
   pub clear : (j : ℕ) → j < 8 → j ≢ k → Apart (slotOf x j .partition) (partitionFor location (parametersOf file))
 
 pub load-accepted : (x : System) (k : ℕ) (location : Location) (file : List ℕ) {n : ℕ} → n ≡ refusal (change k (load location file)) x → n ≡ 0 → LoadAccepted x k location file
-unfolding refusal changeConditions fileConditions placeConditions
+unfolding refusal changeConditions fileConditions locationConditions
 load-accepted x k location file e none =
     let p : Partition = partitionFor location (parametersOf file) in
-    let c1 = zero-parts (memoryConditions x ++ emptyConditions (x .table) k) (fileConditions file ++ placeConditions (x .table) k p) (vacant-numbered x k) (sym e ∙ none) in
-    let c2 = zero-parts (fileConditions file) (placeConditions (x .table) k p) (file-numbered file) (c1 .1) in
-    let (passes, (clear, _)) = none-holds (placeConditions (x .table) k p) (place-numbered (x .table) k p) (c2 .1) in
+    let c1 = zero-parts (systemConditions x ++ emptySlotConditions (x .table) k) (fileConditions file ++ locationConditions (x .table) k p) (vacant-numbered x k) (sym e ∙ none) in
+    let c2 = zero-parts (fileConditions file) (locationConditions (x .table) k p) (file-numbered file) (c1 .1) in
+    let (passes, (clear, _)) = none-holds (locationConditions (x .table) k p) (location-numbered (x .table) k p) (c2 .1) in
     let (good, slot) = vacant-slot x k (c1 .0) in
     record {
       system = good;
@@ -108,7 +108,7 @@ module _ (x : System) (k : ℕ) (location : Location) (file : List ℕ) (a : Loa
       let n : length (freshBytes file) ≡ layoutSize (parametersOf file .layout) = fresh-length file (a .read) in
       record {
         slot = a .slot;
-        whole = slot-test _ loadedSlot fresh-loaded;
+        sound = slot-test _ loadedSlot fresh-loaded;
         clear = a .clear;
         inside = inr (record { loaded = loaded-live _ loadedSlot fresh-loaded; from = omega arith; to = omega arith });
       }
@@ -131,7 +131,7 @@ unload-fits x k h =
     let n : length zeros ≡ layoutSize (slotOf x k .partition .layout) = length-replicate (layoutSize (slotOf x k .partition .layout)) 0 in
     record {
       slot = h .slot;
-      whole = empty-sound (x .table .size);
+      sound = empty-sound (x .table .size);
       clear = λ j q ne. empty-apart (slotOf x j .partition);
       inside = inl (record { loaded = loaded-live _ _ (h .loaded); from = omega arith; to = omega arith });
     }
@@ -153,11 +153,11 @@ drain-accepted x k room e none =
     (r .0, ltb-false _ _ (h .0))
 
 -- a machine fed, and one drained, is sound; a status of 3, or of 4, becomes 1
-resumed-within : (reason n : ℕ) → Within n lastStatus → Within (resumedStatus reason n) lastStatus
+resumed-within : (reason n : ℕ) → OneTo n lastStatus → OneTo (resumedStatus reason n) lastStatus
 unfolding resumedStatus if_then_else_
 resumed-within reason n w = go (eqb n reason)
   where
-    go : (b : Bool) → Within (if b then 1 else n) lastStatus
+    go : (b : Bool) → OneTo (if b then 1 else n) lastStatus
     go true = record { some = omega arith; fits = omega arith }
     go false = w
 
@@ -230,18 +230,18 @@ change-fits (drain room) x k e = drain-fits x k (drain-accepted x k room refl e 
 
 -- ---- a load that no memory reaches
 
-place-far : (t : Table) (k : ℕ) (p : Partition) → t .size < partitionEnd p → refusalBy (placeConditions t k p) ≡ 12
-unfolding condition-definitions placeConditions
-place-far t k p h = rw (lt-ltb (t .size) (partitionEnd p) h)
+location-far : (t : Table) (k : ℕ) (p : Partition) → t .size < partitionEnd p → refusalBy (locationConditions t k p) ≡ 12
+unfolding condition-definitions locationConditions
+location-far t k p h = rw (lt-ltb (t .size) (partitionEnd p) h)
 
 module _ (x : System) (k : ℕ) (file : List ℕ) where
   abbrev vacantPart : List Condition
-  vacantPart = memoryConditions x ++ emptyConditions (x .table) k
+  vacantPart = systemConditions x ++ emptySlotConditions (x .table) k
 
-  abbrev placePart : Location → List Condition
-  placePart a = placeConditions (x .table) k (partitionFor a (parametersOf file))
+  abbrev locationPart : Location → List Condition
+  locationPart a = locationConditions (x .table) k (partitionFor a (parametersOf file))
 
-  -- the number does not depend on the place
+  -- the refusal does not depend on the location
   abbrev behindFile : ℕ
   behindFile = if eqb (refusalBy (fileConditions file)) 0 then 12 else refusalBy (fileConditions file)
 
@@ -249,29 +249,29 @@ module _ (x : System) (k : ℕ) (file : List ℕ) where
   farRefusal = if eqb (refusalBy vacantPart) 0 then behindFile else refusalBy vacantPart
 
   module _ (a : Location) (far : 65536 ≤ a .0) where
-    far-place : refusalBy vacantPart ≡ 0 → refusalBy (fileConditions file) ≡ 0 → refusalBy (placePart a) ≡ 12
+    far-location : refusalBy vacantPart ≡ 0 → refusalBy (fileConditions file) ≡ 0 → refusalBy (locationPart a) ≡ 12
     unfolding fileConditions partitionFor
-    far-place e f =
+    far-location e f =
         let g = vacant-slot x k (none-holds vacantPart (vacant-numbered x k) e) .0 in
         let none = none-holds (fileConditions file) (file-numbered file) f in
         let r = read-ranges file (parametersOf file) (read-zero file (eqb-true _ _ (not-false _ (none .0)))) in
-        place-far (x .table) k (partitionFor a (parametersOf file)) (omega (arith, g .table .size .fits, r .layout .window .some))
+        location-far (x .table) k (partitionFor a (parametersOf file)) (omega (arith, g .table .size .fits, r .layout .window .some))
 
-    far-file : refusalBy vacantPart ≡ 0 → refusalBy (fileConditions file ++ placePart a) ≡ behindFile
+    far-file : refusalBy vacantPart ≡ 0 → refusalBy (fileConditions file ++ locationPart a) ≡ behindFile
     unfolding if_then_else_
-    far-file e = refusal-parts (fileConditions file) (placePart a) (file-numbered file) ∙ go (eqb (refusalBy (fileConditions file)) 0) refl
+    far-file e = refusal-parts (fileConditions file) (locationPart a) (file-numbered file) ∙ go (eqb (refusalBy (fileConditions file)) 0) refl
       where
         go : (b : Bool) → eqb (refusalBy (fileConditions file)) 0 ≡ b
-            → (if b then refusalBy (placePart a) else refusalBy (fileConditions file)) ≡ (if b then 12 else refusalBy (fileConditions file))
-        go true f = far-place e (eqb-true _ _ f)
+            → (if b then refusalBy (locationPart a) else refusalBy (fileConditions file)) ≡ (if b then 12 else refusalBy (fileConditions file))
+        go true f = far-location e (eqb-true _ _ f)
         go false f = refl
 
     far-refusal : refusal (change k (load a file)) x ≡ farRefusal
     unfolding refusal changeConditions if_then_else_
-    far-refusal = refusal-parts vacantPart (fileConditions file ++ placePart a) (vacant-numbered x k) ∙ go (eqb (refusalBy vacantPart) 0) refl
+    far-refusal = refusal-parts vacantPart (fileConditions file ++ locationPart a) (vacant-numbered x k) ∙ go (eqb (refusalBy vacantPart) 0) refl
       where
         go : (b : Bool) → eqb (refusalBy vacantPart) 0 ≡ b
-            → (if b then refusalBy (fileConditions file ++ placePart a) else refusalBy vacantPart) ≡ (if b then behindFile else refusalBy vacantPart)
+            → (if b then refusalBy (fileConditions file ++ locationPart a) else refusalBy vacantPart) ≡ (if b then behindFile else refusalBy vacantPart)
         go true e = far-file (eqb-true _ _ e)
         go false e = refl
 
@@ -282,7 +282,7 @@ module _ (x : System) (k : ℕ) (file : List ℕ) where
         let r = read-ranges file (parametersOf file) (h .read) in
         omega (arith, h .inside, h .system .table .size .fits, r .layout .window .some)
 
-  -- so every place from 65,536 on is refused alike
+  -- so every location from 65,536 on is refused alike
   pub load-far : (a b : Location) → 65536 ≤ a .0 → 65536 ≤ b .0 → outcomeOf (change k (load a file)) x ≡ outcomeOf (change k (load b file)) x
   load-far a b p q =
       sym (refused-outcome (change k (load a file)) x refl (far-refused a p))

@@ -7,12 +7,12 @@ use native.Mathlib.Omega.{arith}
 use borrow.Author.Tests.{eqb-true, ltb-false, not-false}
 use lib.Dec.{eqb}
 use lib.ListN.{length}
-use Rattle.common.specs.RefusalLaws.{NoneHolds, Numbered, given-numbered, numbered-parts, none-parts, zero-parts, none-holds}
+use Rattle.common.specs.RefusalLaws.{NoneHolds, NoneGivesZero, given-numbered, numbered-parts, none-parts, zero-parts, none-holds}
 use Rattle.common.specs.Refusals.{Condition, refusalBy}
 use Rattle.pattern.specs.Reader.{readRefusal, readOf}
 use Rattle.supervisor.specs.System.{System}
-use Rattle.supervisor.specs.Conditions.{tableConditions, memoryConditions, emptyConditions, loadedConditions}
-use Rattle.supervisor.specs.Loading.{fileConditions, placeConditions}
+use Rattle.supervisor.specs.Conditions.{tableConditions, systemConditions, emptySlotConditions, loadedSlotConditions}
+use Rattle.supervisor.specs.Loading.{fileConditions, locationConditions}
 use Rattle.supervisor.specs.SoundLaws.{Loaded, TableSound, table-fact, loaded-slot}
 use Rattle.supervisor.specs.Table.{slotAt, isEmpty}
 use Rattle.supervisor.specs.Sound.{tableSound}
@@ -32,29 +32,29 @@ pub record HoldsPattern (t : Table) (k : ℕ) : Type 0 where
 
 -- ---- each list has numbers
 
-pub table-numbered : (t : Table) → Numbered (tableConditions t)
+pub table-numbered : (t : Table) → NoneGivesZero (tableConditions t)
 unfolding tableConditions
 table-numbered t = (λ e. omega arith, tt)
 
-pub memory-numbered : (x : System) → Numbered (memoryConditions x)
-unfolding memoryConditions
-memory-numbered x = numbered-parts (tableConditions (x .table)) _ (table-numbered (x .table)) (λ e. omega arith, tt)
+pub system-numbered : (x : System) → NoneGivesZero (systemConditions x)
+unfolding systemConditions
+system-numbered x = numbered-parts (tableConditions (x .table)) _ (table-numbered (x .table)) (λ e. omega arith, tt)
 
-pub empty-numbered : (t : Table) (k : ℕ) → Numbered (emptyConditions t k)
-unfolding emptyConditions
-empty-numbered t k = (λ e. omega arith, (λ e. omega arith, tt))
+pub empty-slot-numbered : (t : Table) (k : ℕ) → NoneGivesZero (emptySlotConditions t k)
+unfolding emptySlotConditions
+empty-slot-numbered t k = (λ e. omega arith, (λ e. omega arith, tt))
 
-pub loaded-numbered : (t : Table) (k : ℕ) → Numbered (loadedConditions t k)
-unfolding loadedConditions
-loaded-numbered t k = (λ e. omega arith, (λ e. omega arith, tt))
+pub loaded-slot-numbered : (t : Table) (k : ℕ) → NoneGivesZero (loadedSlotConditions t k)
+unfolding loadedSlotConditions
+loaded-slot-numbered t k = (λ e. omega arith, (λ e. omega arith, tt))
 
-pub file-numbered : (file : List ℕ) → Numbered (fileConditions file)
+pub file-numbered : (file : List ℕ) → NoneGivesZero (fileConditions file)
 unfolding fileConditions
 file-numbered file = (given-numbered (readRefusal (readOf file)), tt)
 
-pub place-numbered : (t : Table) (k : ℕ) (p : Partition) → Numbered (placeConditions t k p)
-unfolding placeConditions
-place-numbered t k p = (λ e. omega arith, (λ e. omega arith, tt))
+pub location-numbered : (t : Table) (k : ℕ) (p : Partition) → NoneGivesZero (locationConditions t k p)
+unfolding locationConditions
+location-numbered t k p = (λ e. omega arith, (λ e. omega arith, tt))
 
 -- ---- what they say where none holds
 
@@ -62,21 +62,21 @@ pub table-sound : (t : Table) → NoneHolds (tableConditions t) → TableSound t
 unfolding tableConditions
 table-sound t h = table-fact t (not-false (tableSound t) (h .0))
 
-pub memory-sound : (x : System) → NoneHolds (memoryConditions x) → SoundSystem x
-unfolding memoryConditions
-memory-sound x h =
+pub system-sound : (x : System) → NoneHolds (systemConditions x) → SoundSystem x
+unfolding systemConditions
+system-sound x h =
     let (table, (fits, _)) = none-parts (tableConditions (x .table)) _ h in
     record {
       table = table-sound (x .table) table;
       fits = eqb-true (length (x .memory)) (x .table .size) (not-false (eqb (length (x .memory)) (x .table .size)) fits);
     }
 
-pub empty-below : (t : Table) (k : ℕ) → NoneHolds (emptyConditions t k) → k < 8
-unfolding emptyConditions
+pub empty-below : (t : Table) (k : ℕ) → NoneHolds (emptySlotConditions t k) → k < 8
+unfolding emptySlotConditions
 empty-below t k h = let l : k ≤ 7 = ltb-false 7 k (h .0) in omega arith
 
-pub loaded-holds : (t : Table) (k : ℕ) → TableSound t → NoneHolds (loadedConditions t k) → HoldsPattern t k
-unfolding loadedConditions
+pub loaded-holds : (t : Table) (k : ℕ) → TableSound t → NoneHolds (loadedSlotConditions t k) → HoldsPattern t k
+unfolding loadedSlotConditions
 loaded-holds t k s h =
     let (slot, (loaded, _)) = h in
     let l : k ≤ 7 = ltb-false 7 k slot in
@@ -86,10 +86,10 @@ loaded-holds t k s h =
 -- ---- calls at a slot that holds a pattern
 
 -- with a table alone
-pub holds-pattern : (t : Table) (k : ℕ) {n : ℕ} → n ≡ refusalBy (tableConditions t ++ loadedConditions t k) → n ≡ 0 → HoldsPattern t k
+pub holds-pattern : (t : Table) (k : ℕ) {n : ℕ} → n ≡ refusalBy (tableConditions t ++ loadedSlotConditions t k) → n ≡ 0 → HoldsPattern t k
 holds-pattern t k e none =
-    let s = zero-parts (tableConditions t) (loadedConditions t k) (table-numbered t) (sym e ∙ none) in
-    loaded-holds t k (table-sound t (s .0)) (none-holds (loadedConditions t k) (loaded-numbered t k) (s .1))
+    let s = zero-parts (tableConditions t) (loadedSlotConditions t k) (table-numbered t) (sym e ∙ none) in
+    loaded-holds t k (table-sound t (s .0)) (none-holds (loadedSlotConditions t k) (loaded-slot-numbered t k) (s .1))
 
 -- with a table and its memory
 pub record ReadySlot (x : System) (k : ℕ) : Type 0 where
@@ -99,29 +99,29 @@ pub record ReadySlot (x : System) (k : ℕ) : Type 0 where
 pub loaded-ready : (x : System) (k : ℕ) → SoundSystem x → k < 8 → isEmpty (slotAt (x .table) k) ≡ false → ReadySlot x k
 loaded-ready x k g q m = record { system = g; holds = record { table = g .table; slot = q; loaded = loaded-slot _ _ (g .table .each k q) m } }
 
-pub ready-numbered : (x : System) (k : ℕ) → Numbered (memoryConditions x ++ loadedConditions (x .table) k)
-ready-numbered x k = numbered-parts (memoryConditions x) (loadedConditions (x .table) k) (memory-numbered x) (loaded-numbered (x .table) k)
+pub ready-numbered : (x : System) (k : ℕ) → NoneGivesZero (systemConditions x ++ loadedSlotConditions (x .table) k)
+ready-numbered x k = numbered-parts (systemConditions x) (loadedSlotConditions (x .table) k) (system-numbered x) (loaded-slot-numbered (x .table) k)
 
-none-ready : (x : System) (k : ℕ) → NoneHolds (memoryConditions x ++ loadedConditions (x .table) k) → ReadySlot x k
+none-ready : (x : System) (k : ℕ) → NoneHolds (systemConditions x ++ loadedSlotConditions (x .table) k) → ReadySlot x k
 none-ready x k h =
-    let (memory, loaded) = none-parts (memoryConditions x) (loadedConditions (x .table) k) h in
-    let g : SoundSystem x = memory-sound x memory in
+    let (memory, loaded) = none-parts (systemConditions x) (loadedSlotConditions (x .table) k) h in
+    let g : SoundSystem x = system-sound x memory in
     record { system = g; holds = loaded-holds (x .table) k (g .table) loaded }
 
-pub ready-parts : (x : System) (k : ℕ) (own : List Condition) → refusalBy (memoryConditions x ++ loadedConditions (x .table) k ++ own) ≡ 0 → ReadySlot x k × (refusalBy own ≡ 0)
+pub ready-parts : (x : System) (k : ℕ) (own : List Condition) → refusalBy (systemConditions x ++ loadedSlotConditions (x .table) k ++ own) ≡ 0 → ReadySlot x k × (refusalBy own ≡ 0)
 ready-parts x k own e =
-    let m = zero-parts (memoryConditions x ++ loadedConditions (x .table) k) own (ready-numbered x k) e in
+    let m = zero-parts (systemConditions x ++ loadedSlotConditions (x .table) k) own (ready-numbered x k) e in
     (none-ready x k (m .0), m .1)
 
-pub refusal-ready : (x : System) (k : ℕ) {n : ℕ} → n ≡ refusalBy (memoryConditions x ++ loadedConditions (x .table) k) → n ≡ 0 → ReadySlot x k
-refusal-ready x k e none = none-ready x k (none-holds (memoryConditions x ++ loadedConditions (x .table) k) (ready-numbered x k) (sym e ∙ none))
+pub refusal-ready : (x : System) (k : ℕ) {n : ℕ} → n ≡ refusalBy (systemConditions x ++ loadedSlotConditions (x .table) k) → n ≡ 0 → ReadySlot x k
+refusal-ready x k e none = none-ready x k (none-holds (systemConditions x ++ loadedSlotConditions (x .table) k) (ready-numbered x k) (sym e ∙ none))
 
 -- ---- a load, before its file is read
 
-pub vacant-numbered : (x : System) (k : ℕ) → Numbered (memoryConditions x ++ emptyConditions (x .table) k)
-vacant-numbered x k = numbered-parts (memoryConditions x) (emptyConditions (x .table) k) (memory-numbered x) (empty-numbered (x .table) k)
+pub vacant-numbered : (x : System) (k : ℕ) → NoneGivesZero (systemConditions x ++ emptySlotConditions (x .table) k)
+vacant-numbered x k = numbered-parts (systemConditions x) (emptySlotConditions (x .table) k) (system-numbered x) (empty-slot-numbered (x .table) k)
 
-pub vacant-slot : (x : System) (k : ℕ) → NoneHolds (memoryConditions x ++ emptyConditions (x .table) k) → SoundSystem x × (k < 8)
+pub vacant-slot : (x : System) (k : ℕ) → NoneHolds (systemConditions x ++ emptySlotConditions (x .table) k) → SoundSystem x × (k < 8)
 vacant-slot x k h =
-    let (memory, empty) = none-parts (memoryConditions x) (emptyConditions (x .table) k) h in
-    (memory-sound x memory, empty-below (x .table) k empty)
+    let (memory, empty) = none-parts (systemConditions x) (emptySlotConditions (x .table) k) h in
+    (system-sound x memory, empty-below (x .table) k empty)

@@ -15,12 +15,12 @@ use Rattle.supervisor.specs.declared.table.Table.{Table}
 unfoldable pub tableConditions : Table → List Condition
 tableConditions t = not (tableSound t) gives 1 ∷ []
 
-unfoldable pub memoryConditions : System → List Condition
-memoryConditions x = tableConditions (x .table) ++ (not (eqb (length (x .memory)) (x .table .size)) gives 2 ∷ [])
+unfoldable pub systemConditions : System → List Condition
+systemConditions x = tableConditions (x .table) ++ (not (eqb (length (x .memory)) (x .table .size)) gives 2 ∷ [])
 
 -- a call at a slot that is to be empty; a call at a slot that is to hold a pattern
-unfoldable pub emptyConditions : Table → ℕ → List Condition
-emptyConditions t k = ltb 7 k gives 3 ∷ not (isEmpty (slotAt t k)) gives 4 ∷ []
+unfoldable pub emptySlotConditions : Table → ℕ → List Condition
+emptySlotConditions t k = ltb 7 k gives 3 ∷ not (isEmpty (slotAt t k)) gives 4 ∷ []
 
-unfoldable pub loadedConditions : Table → ℕ → List Condition
-loadedConditions t k = ltb 7 k gives 3 ∷ isEmpty (slotAt t k) gives 5 ∷ []
+unfoldable pub loadedSlotConditions : Table → ℕ → List Condition
+loadedSlotConditions t k = ltb 7 k gives 3 ∷ isEmpty (slotAt t k) gives 5 ∷ []

@@ -4,14 +4,14 @@ use Prim.Native.Nat.{_+_, ℕ}
 use lib.ListN.{set}
 use mathlib.Core.List.{List, [], _∷_}
 use Rattle.common.specs.Choice.{if_then_else_}
-use Rattle.supervisor.specs.Calls.{Call, accepted, afterCall, change, query, run}
+use Rattle.supervisor.specs.Calls.{Call, isAccepted, afterCall, change, query, run}
 use Rattle.supervisor.specs.System.{System, system}
 
 -- what happens to a table and its memory: a call, or one byte of the memory written from outside between two calls. A buffer that
 -- lies in the memory and is lent to `drain` is written from outside after it, byte by byte
 pub data Event : Type 0 where
   call : Call → Event
-  write : (place byte : ℕ) → Event
+  write : (location byte : ℕ) → Event
 
 -- table and memory after an event
 unfoldable pub afterEvent : Event → System → System
@@ -23,14 +23,14 @@ unfoldable pub afterEvents : List Event → System → System
 afterEvents [] x = x
 afterEvents (e ∷ rest) x = afterEvents rest (afterEvent e x)
 
--- p: the rounds of the accepted runs
+-- document 01's p: the rounds of the accepted runs
 unfoldable pub roundsOfCall : Call → ℕ
 roundsOfCall (change k c) = 0
 roundsOfCall (run n) = n
 roundsOfCall (query q) = 0
 
 unfoldable pub roundsOfEvent : Event → System → ℕ
-roundsOfEvent (call c) x = if accepted c x then roundsOfCall c else 0
+roundsOfEvent (call c) x = if isAccepted c x then roundsOfCall c else 0
 roundsOfEvent (write i b) x = 0
 
 unfoldable pub roundsOfEvents : List Event → System → ℕ

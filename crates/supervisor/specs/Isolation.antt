@@ -17,15 +17,15 @@ use Rattle.supervisor.specs.Table.{isEmpty, partitionEnd}
 use Rattle.supervisor.specs.declared.table.Slot.{Slot}
 
 -- byte i lies in the partition of the slot
-unfoldable pub inPartition : Slot → ℕ → Bool
-inPartition s i = not (isEmpty s) && leb (s .partition .base .0) i && ltb i (partitionEnd (s .partition))
+unfoldable pub isInPartition : Slot → ℕ → Bool
+isInPartition s i = not (isEmpty s) && leb (s .partition .base .0) i && ltb i (partitionEnd (s .partition))
 
 -- slot k is left alone: no change is accepted at it, and its partition is not written from outside
 unfoldable pub LeftAlone : ℕ → Event → System → Type 0
 LeftAlone k (call (change j c)) x = j ≡ k → refusal (change j c) x ≢ 0
 LeftAlone k (call (run n)) x = Unit {0}
 LeftAlone k (call (query q)) x = Unit {0}
-LeftAlone k (write i b) x = inPartition (slotOf x k) i ≡ false
+LeftAlone k (write i b) x = isInPartition (slotOf x k) i ≡ false
 
 -- and so it is at each event of a list
 unfoldable pub LeftAloneThroughout : ℕ → List Event → System → Type 0
@@ -34,24 +34,24 @@ LeftAloneThroughout k (e ∷ rest) x = LeftAlone k e x × LeftAloneThroughout k 
 
 -- byte i is in no partition
 unfoldable pub InNoPartition : ℕ → System → Type 0
-InNoPartition i x = (k : ℕ) → k < 8 → inPartition (slotOf x k) i ≡ false
+InNoPartition i x = (k : ℕ) → k < 8 → isInPartition (slotOf x k) i ≡ false
 
 -- an event that does not write byte i from outside
 unfoldable pub NotWritten : ℕ → Event → Type 0
 NotWritten i (call c) = Unit {0}
 NotWritten i (write j b) = j ≢ i
 
--- byte i is in no partition before the list and after each event, and is not written from outside
-unfoldable pub InNoPartitionThroughout : ℕ → List Event → System → Type 0
-InNoPartitionThroughout i [] x = InNoPartition i x
-InNoPartitionThroughout i (e ∷ rest) x = InNoPartition i x × NotWritten i e × InNoPartitionThroughout i rest (afterEvent e x)
+-- byte i is in no partition before the list and after each event, and no event writes it from outside
+unfoldable pub InNoPartitionNorWrittenThroughout : ℕ → List Event → System → Type 0
+InNoPartitionNorWrittenThroughout i [] x = InNoPartition i x
+InNoPartitionNorWrittenThroughout i (e ∷ rest) x = InNoPartition i x × NotWritten i e × InNoPartitionNorWrittenThroughout i rest (afterEvent e x)
 
 -- the table is sound before the list and after each event
 unfoldable pub SoundThroughout : List Event → System → Type 0
 SoundThroughout [] x = tableSound (x .table) ≡ true
 SoundThroughout (e ∷ rest) x = (tableSound (x .table) ≡ true) × SoundThroughout rest (afterEvent e x)
 
--- no run of the list is refused
+-- a run is never refused: before each event of the list, one of any count would be accepted
 unfoldable pub RunsAccepted : List Event → System → Type 0
 RunsAccepted [] x = Unit {0}
 RunsAccepted (e ∷ rest) x = (((count : ℕ) → refusal (run count) x ≡ 0)) × RunsAccepted rest (afterEvent e x)
@@ -68,7 +68,7 @@ pub record Isolation (x : System) (events : List Event) : Type 0 where
   pub partition :
       (k : ℕ) → k < 8 → isEmpty (slotOf x k) ≡ false → LeftAloneThroughout k events x → slotOf (afterEvents events x) k .partition ≡ slotOf x k .partition
   -- a byte in no partition all through is as it was
-  pub byte : (i : ℕ) → InNoPartitionThroughout i events x → getD (afterEvents events x .memory) i 0 ≡ getD (x .memory) i 0
+  pub byte : (i : ℕ) → InNoPartitionNorWrittenThroughout i events x → getD (afterEvents events x .memory) i 0 ≡ getD (x .memory) i 0
   -- every table handed back is sound
   pub tables : SoundThroughout events x
   -- a run is never refused

@@ -17,13 +17,13 @@ use Rattle.common.specs.RepetitionLaws.{times-add}
 use Rattle.common.specs.Choice.{if_then_else_}
 use Rattle.slices.specs.SliceLaws.{part-front}
 use Rattle.slices.specs.Slices.{partOf}
-use Rattle.supervisor.specs.Calls.{Call, change, run, query, refusal, afterAccepted, accepted, afterCall}
+use Rattle.supervisor.specs.Calls.{Call, change, run, query, refusal, afterAccepted, isAccepted, afterCall}
 use Rattle.supervisor.specs.ChangeLaws.{change-fits}
 use Rattle.supervisor.specs.ConditionLaws.{SoundSystem}
 use Rattle.supervisor.specs.Events.{Event, call, write, afterEvent, afterEvents, roundsOfCall, roundsOfEvent, roundsOfEvents}
-use Rattle.supervisor.specs.Isolation.{LeftAlone, LeftAloneThroughout, InNoPartition, NotWritten, InNoPartitionThroughout, SoundThroughout, RunsAccepted, Isolation}
+use Rattle.supervisor.specs.Isolation.{LeftAlone, LeftAloneThroughout, InNoPartition, NotWritten, InNoPartitionNorWrittenThroughout, SoundThroughout, RunsAccepted, Isolation}
 use Rattle.supervisor.specs.System.{System, slotOf, machineIn}
-use Rattle.supervisor.specs.Conditions.{tableConditions, memoryConditions}
+use Rattle.supervisor.specs.Conditions.{tableConditions, systemConditions}
 use Rattle.supervisor.specs.Running.{afterRun}
 use Rattle.supervisor.specs.PatchLaws.{slotMachine, OutsidePartition, outside-partition, KeepsOthers, patch-keeps}
 use Rattle.supervisor.specs.RoundLaws.{DiffersByRunning, rounds-running, rounds-machine}
@@ -32,7 +32,7 @@ use Rattle.supervisor.specs.Table.{isEmpty, partitionEnd}
 use Rattle.supervisor.specs.Sound.{tableSound}
 use Rattle.supervisor.specs.declared.table.Partition.{Partition}
 use Rattle.supervisor.specs.declared.table.Slot.{Slot}
-use Rattle.common.specs.RefusalDefinitions.{condition-definitions}
+use Rattle.common.specs.ConditionDefinitions.{condition-definitions}
 
 -- slot j goes on as the lone machine for n steps
 record RunsAlone (j n : ℕ) (x y : System) : Type 0 where
@@ -88,9 +88,9 @@ accepted-isolates (query q) x g e = nothing-isolates (call (query q)) x g
 
 call-isolates : (c : Call) (x : System) → SoundSystem x → EventIsolates (call c) (roundsOfEvent (call c) x) x (afterCall c x)
 unfolding afterCall roundsOfEvent if_then_else_
-call-isolates c x g = go (accepted c x) refl
+call-isolates c x g = go (isAccepted c x) refl
   where
-    go : (b : Bool) → accepted c x ≡ b → EventIsolates (call c) (if b then roundsOfCall c else 0) x (if b then afterAccepted c x else x)
+    go : (b : Bool) → isAccepted c x ≡ b → EventIsolates (call c) (if b then roundsOfCall c else 0) x (if b then afterAccepted c x else x)
     go true a = accepted-isolates c x g (eqb-true (refusal c x) 0 a)
     go false a = nothing-isolates (call c) x g
 
@@ -150,14 +150,14 @@ slot-after-events (e ∷ rest) x g j q m l =
     let d : roundsOfEvent e x * s + roundsOfEvents rest (afterEvent e x) * s ≡ (roundsOfEvent e x + roundsOfEvents rest (afterEvent e x)) * s = omega arith in
     rw (← d) (runs-alone-trans j _ _ x (afterEvent e x) (afterEvents rest (afterEvent e x)) p (rw (ap (λ (z : Partition). z .quantum) (p .partition)) at r))
 
-byte-after-events : (events : List Event) (x : System) → SoundSystem x → (i : ℕ) → InNoPartitionThroughout i events x → getD (afterEvents events x .memory) i 0 ≡ getD (x .memory) i 0
-unfolding InNoPartitionThroughout afterEvents
+byte-after-events : (events : List Event) (x : System) → SoundSystem x → (i : ℕ) → InNoPartitionNorWrittenThroughout i events x → getD (afterEvents events x .memory) i 0 ≡ getD (x .memory) i 0
+unfolding InNoPartitionNorWrittenThroughout afterEvents
 byte-after-events [] x g i h = refl
 byte-after-events (e ∷ rest) x g i h =
     let f = event-isolates e x g in
     byte-after-events rest (afterEvent e x) (f .system) i (h .2) ∙ f .bytes i (h .1) (h .0) (first rest (afterEvent e x) (h .2))
   where
-    first : (events : List Event) (y : System) → InNoPartitionThroughout i events y → InNoPartition i y
+    first : (events : List Event) (y : System) → InNoPartitionNorWrittenThroughout i events y → InNoPartition i y
     first [] y h = h
     first (d ∷ events) y h = h .0
 
@@ -168,7 +168,7 @@ sound-throughout (e ∷ rest) x g = (table-test (x .table) (g .table), sound-thr
 
 -- a sound table with its memory refuses no run
 pub run-accepted : (x : System) → SoundSystem x → (count : ℕ) → refusal (run count) x ≡ 0
-unfolding condition-definitions refusal memoryConditions tableConditions
+unfolding condition-definitions refusal systemConditions tableConditions
 run-accepted x g count = simp (table-test (x .table) (g .table), eq-eqb (length (x .memory)) (x .table .size) (g .fits))
 
 runs-throughout : (events : List Event) (x : System) → SoundSystem x → RunsAccepted events x

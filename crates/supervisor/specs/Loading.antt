@@ -6,7 +6,7 @@ use mathlib.Core.List.{List, [], _∷_}
 use Rattle.common.specs.Refusals.{Condition, _gives_}
 use Rattle.loader.specs.Fresh.{fileState, freshBytes}
 use Rattle.pattern.specs.Reader.{parametersOf, readOf, readRefusal}
-use Rattle.supervisor.specs.Sound.{clearOfOthers}
+use Rattle.supervisor.specs.Sound.{isClearOfOthers}
 use Rattle.supervisor.specs.System.{Patch, patch}
 use Rattle.supervisor.specs.Table.{partitionEnd}
 use Rattle.common.specs.declared.places.Location.{Location}
@@ -14,7 +14,7 @@ use Rattle.pattern.specs.declared.parameters.Parameters.{Parameters}
 use Rattle.supervisor.specs.declared.table.Partition.{Partition}
 use Rattle.supervisor.specs.declared.table.Table.{Table}
 
--- the partition of a pattern with those parameters that is loaded there
+-- the partition of a pattern with those parameters, loaded at that location
 unfoldable pub partitionFor : Location → Parameters → Partition
 partitionFor location parameters = record { base = location; layout = parameters .layout; quantum = parameters .quantum }
 
@@ -23,8 +23,8 @@ unfoldable pub fileConditions : List ℕ → List Condition
 fileConditions file = not (eqb (readRefusal (readOf file)) 0) gives readRefusal (readOf file) ∷ []
 
 -- the partition passes the memory's end, or meets another one
-unfoldable pub placeConditions : Table → ℕ → Partition → List Condition
-placeConditions t k p = ltb (t .size) (partitionEnd p) gives 12 ∷ not (clearOfOthers t k p) gives 13 ∷ []
+unfoldable pub locationConditions : Table → ℕ → Partition → List Condition
+locationConditions t k p = ltb (t .size) (partitionEnd p) gives 12 ∷ not (isClearOfOthers t k p) gives 13 ∷ []
 
 -- a fresh machine, its first input unread, and the whole partition, unused bytes zero
 unfoldable pub loadPatch : Location → List ℕ → Patch

@@ -1,10 +1,10 @@
--- Definitions that must be believed: places in memory, from a partition's addresses (document 01, "Floor and bays").
+-- Definitions that must be believed: locations in memory, from a partition's addresses (document 01, "Floor and bays").
 use Prim.Native.Nat.{_+_}
 use Rattle.common.specs.declared.places.Address.{Address}
 use Rattle.common.specs.declared.places.Location.{Location}
 use Rattle.supervisor.specs.declared.table.Partition.{Partition}
 
--- the place of a machine address: through the base, and in no other way
+-- the location of a machine address: through the base, and in no other way
 abbrev pub locationOf : Partition → Address → Location
 locationOf p a = record { 0 = p .base .0 + a .0 }
 

@@ -16,7 +16,7 @@ use Rattle.cpu.specs.declared.state.State.{State}
 use Rattle.slices.specs.SliceLaws.{copied-length, byte-before-copy, byte-after-copy}
 use Rattle.slices.specs.Slices.{copied}
 use Rattle.supervisor.specs.ConditionLaws.{SoundSystem, HoldsPattern}
-use Rattle.supervisor.specs.Isolation.{InNoPartition, inPartition}
+use Rattle.supervisor.specs.Isolation.{InNoPartition, isInPartition}
 use Rattle.supervisor.specs.SlotMachineLaws.{machine-untouched}
 use Rattle.supervisor.specs.System.{System, slotOf, Patch, patch, patched, machineIn}
 use Rattle.supervisor.specs.SoundLaws.{StateSound, Loaded, Unloaded, slot-fact, slot-test, loaded-live, Apart, apart-cases, with-slot-same, with-slot-other, with-slot-size, with-slot-sound}
@@ -33,8 +33,8 @@ slotMachine k x = machineIn (slotOf x k) (x .memory)
 abbrev pub OutsidePartition : Partition → ℕ → Type 0
 OutsidePartition p i = (i < p .base .0) ⊎ (partitionEnd p ≤ i)
 
-pub outside-partition : (s : Slot) (i : ℕ) → inPartition s i ≡ false → isEmpty s ≡ false → OutsidePartition (s .partition) i
-unfolding inPartition
+pub outside-partition : (s : Slot) (i : ℕ) → isInPartition s i ≡ false → isEmpty s ≡ false → OutsidePartition (s .partition) i
+unfolding isInPartition
 outside-partition s i h m = go (decLt i (s .partition .base .0)) (decLe (partitionEnd (s .partition)) i)
   where
     go : Dec (i < s .partition .base .0) → Dec (partitionEnd (s .partition) ≤ i) → OutsidePartition (s .partition) i
@@ -56,13 +56,13 @@ slot-inside x g k q = go (slot-fact _ _ (g .table .each k q))
 -- a loaded slot in whose partition the patch writes
 pub record WritesInside (s : Slot) (p : Patch) : Type 0 where
   pub loaded : isEmpty s ≡ false
-  pub from : s .partition .base .0 ≤ p .place .0
-  pub to : p .place .0 + length (p .bytes) ≤ partitionEnd (s .partition)
+  pub from : s .partition .base .0 ≤ p .location .0
+  pub to : p .location .0 + length (p .bytes) ≤ partitionEnd (s .partition)
 
 -- the new slot is sound and clear of the others, and what is written lies in its partition or in the one before
 pub record PatchFits (x : System) (k : ℕ) (p : Patch) : Type 0 where
   pub slot : k < 8
-  pub whole : slotSound (x .table .size) (p .slot) ≡ true
+  pub sound : slotSound (x .table .size) (p .slot) ≡ true
   pub clear : (j : ℕ) → j < 8 → j ≢ k → Apart (slotOf x j .partition) (p .slot .partition)
   pub inside : WritesInside (slotOf x k) p ⊎ WritesInside (p .slot) p
 
@@ -83,20 +83,20 @@ module _ (x : System) (g : SoundSystem x) (k : ℕ) (p : Patch) where
   patched-others j ne = with-slot-other (x .table) k (p .slot) j ne
 
   -- what is written does not meet a partition that is apart from the one written in
-  written-apart : (s : Slot) → WritesInside s p → (q : Partition) → Apart q (s .partition) → (partitionEnd q ≤ p .place .0) ⊎ (p .place .0 + length (p .bytes) ≤ q .base .0)
+  written-apart : (s : Slot) → WritesInside s p → (q : Partition) → Apart q (s .partition) → (partitionEnd q ≤ p .location .0) ⊎ (p .location .0 + length (p .bytes) ≤ q .base .0)
   written-apart s h q a = go (apart-cases q (s .partition) a)
     where
-      go : (partitionEnd q ≤ s .partition .base .0) ⊎ (partitionEnd (s .partition) ≤ q .base .0) → (partitionEnd q ≤ p .place .0) ⊎ (p .place .0 + length (p .bytes) ≤ q .base .0)
+      go : (partitionEnd q ≤ s .partition .base .0) ⊎ (partitionEnd (s .partition) ≤ q .base .0) → (partitionEnd q ≤ p .location .0) ⊎ (p .location .0 + length (p .bytes) ≤ q .base .0)
       go (inl u) = inl (omega (arith, h .from))
       go (inr u) = inr (omega (arith, h .to))
 
   -- a byte outside the partition that is written in is as it was
-  outside-unwritten : (s : Slot) → WritesInside s p → (i : ℕ) → inPartition s i ≡ false → getD (copied (x .memory) (p .place .0) (p .bytes)) i 0 ≡ getD (x .memory) i 0
+  outside-unwritten : (s : Slot) → WritesInside s p → (i : ℕ) → isInPartition s i ≡ false → getD (copied (x .memory) (p .location .0) (p .bytes)) i 0 ≡ getD (x .memory) i 0
   outside-unwritten s h i o = go (outside-partition s i o (h .loaded))
     where
-      go : OutsidePartition (s .partition) i → getD (copied (x .memory) (p .place .0) (p .bytes)) i 0 ≡ getD (x .memory) i 0
-      go (inl u) = byte-before-copy (x .memory) (p .place .0) (p .bytes) i (omega (arith, h .from))
-      go (inr u) = byte-after-copy (x .memory) (p .place .0) (p .bytes) i (omega (arith, h .to))
+      go : OutsidePartition (s .partition) i → getD (copied (x .memory) (p .location .0) (p .bytes)) i 0 ≡ getD (x .memory) i 0
+      go (inl u) = byte-before-copy (x .memory) (p .location .0) (p .bytes) i (omega (arith, h .from))
+      go (inr u) = byte-after-copy (x .memory) (p .location .0) (p .bytes) i (omega (arith, h .to))
 
   -- the one lemma about patches
   pub patch-keeps : PatchFits x k p → KeepsOthers k x (patched x k p)
@@ -105,31 +105,31 @@ module _ (x : System) (g : SoundSystem x) (k : ℕ) (p : Patch) where
       record {
         system =
             record {
-              table = with-slot-sound (x .table) k (p .slot) (g .table) (f .slot) (f .whole) (f .clear);
-              fits = copied-length (x .memory) (p .place .0) (p .bytes) ∙ g .fits ∙ sym (with-slot-size (x .table) k (p .slot));
+              table = with-slot-sound (x .table) k (p .slot) (g .table) (f .slot) (f .sound) (f .clear);
+              fits = copied-length (x .memory) (p .location .0) (p .bytes) ∙ g .fits ∙ sym (with-slot-size (x .table) k (p .slot));
             };
         slots = patched-others;
         machines = λ j q ne.
-            ap (λ (z : Slot). machineIn z (copied (x .memory) (p .place .0) (p .bytes))) (patched-others j ne)
-            ∙ machine-untouched (slotOf x j) (x .memory) (p .place .0) (p .bytes) (clear j q ne (f .inside));
+            ap (λ (z : Slot). machineIn z (copied (x .memory) (p .location .0) (p .bytes))) (patched-others j ne)
+            ∙ machine-untouched (slotOf x j) (x .memory) (p .location .0) (p .bytes) (clear j q ne (f .inside));
         bytes = λ i h₀ h₁. bytes i h₀ h₁ (f .inside);
       }
     where
-      clear : (j : ℕ) → j < 8 → j ≢ k → WritesInside (slotOf x k) p ⊎ WritesInside (p .slot) p → (partitionEnd (slotOf x j .partition) ≤ p .place .0) ⊎ (p .place .0 + length (p .bytes) ≤ slotOf x j .partition .base .0)
+      clear : (j : ℕ) → j < 8 → j ≢ k → WritesInside (slotOf x k) p ⊎ WritesInside (p .slot) p → (partitionEnd (slotOf x j .partition) ≤ p .location .0) ⊎ (p .location .0 + length (p .bytes) ≤ slotOf x j .partition .base .0)
       clear j q ne (inl h) = written-apart (slotOf x k) h (slotOf x j .partition) (g .table .disjoint j k q (f .slot) ne)
       clear j q ne (inr h) = written-apart (p .slot) h (slotOf x j .partition) (f .clear j q ne)
 
-      bytes : (i : ℕ) → InNoPartition i x → InNoPartition i (patched x k p) → WritesInside (slotOf x k) p ⊎ WritesInside (p .slot) p → getD (copied (x .memory) (p .place .0) (p .bytes)) i 0 ≡ getD (x .memory) i 0
+      bytes : (i : ℕ) → InNoPartition i x → InNoPartition i (patched x k p) → WritesInside (slotOf x k) p ⊎ WritesInside (p .slot) p → getD (copied (x .memory) (p .location .0) (p .bytes)) i 0 ≡ getD (x .memory) i 0
       bytes i h₀ h₁ (inl h) = outside-unwritten (slotOf x k) h i (h₀ k (f .slot))
-      bytes i h₀ h₁ (inr h) = outside-unwritten (p .slot) h i (subst (λ (s : Slot). inPartition s i ≡ false) (patched-slot (f .slot)) (h₁ k (f .slot)))
+      bytes i h₀ h₁ (inr h) = outside-unwritten (p .slot) h i (subst (λ (s : Slot). isInPartition s i ≡ false) (patched-slot (f .slot)) (h₁ k (f .slot)))
 
 -- another state in the partition of a loaded slot, and bytes in it
-pub state-fits : (x : System) (k : ℕ) → HoldsPattern (x .table) k → (z : State) (place : Location) (bytes : List ℕ) → StateSound (slotOf x k .partition .layout) z
-    → slotOf x k .partition .base .0 ≤ place .0 → place .0 + length bytes ≤ partitionEnd (slotOf x k .partition) → PatchFits x k (patch (slotWithState (slotOf x k) z) place bytes)
-state-fits x k h z place bytes s l u =
+pub state-fits : (x : System) (k : ℕ) → HoldsPattern (x .table) k → (z : State) (location : Location) (bytes : List ℕ) → StateSound (slotOf x k .partition .layout) z
+    → slotOf x k .partition .base .0 ≤ location .0 → location .0 + length bytes ≤ partitionEnd (slotOf x k .partition) → PatchFits x k (patch (slotWithState (slotOf x k) z) location bytes)
+state-fits x k h z location bytes s l u =
     record {
       slot = h .slot;
-      whole = slot-test _ (slotWithState (slotOf x k) z) (record { partition = h .loaded .partition; state = s });
+      sound = slot-test _ (slotWithState (slotOf x k) z) (record { partition = h .loaded .partition; state = s });
       clear = λ j q ne. h .table .disjoint j k q (h .slot) ne;
       inside = inl (record { loaded = loaded-live _ _ (h .loaded); from = l; to = u });
     }

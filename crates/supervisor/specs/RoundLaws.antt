@@ -18,10 +18,10 @@ use Rattle.cpu.specs.RestLaws.{times-rests}
 use Rattle.slices.specs.SliceLaws.{copy-self}
 use Rattle.slices.specs.Slices.{copied}
 use Rattle.supervisor.specs.ConditionLaws.{SoundSystem}
-use Rattle.supervisor.specs.Isolation.{inPartition, InNoPartition}
+use Rattle.supervisor.specs.Isolation.{isInPartition, InNoPartition}
 use Rattle.supervisor.specs.SlotMachineLaws.{HasLayout, bytes-length, slot-has-layout, slot-machine-bytes, written-back, machine-sound, state-sound}
 use Rattle.supervisor.specs.System.{System, system, slotOf, patched, machineIn}
-use Rattle.supervisor.specs.Running.{machineBytes, slotAfterQuantum, quantumPatch, slotQuantum, slotQuanta, afterRun}
+use Rattle.supervisor.specs.Running.{machineBytes, machineAfterQuantum, quantumPatch, slotQuantum, slotQuanta, afterRun}
 use Rattle.supervisor.specs.PatchLaws.{slotMachine, slot-inside, KeepsOthers, patched-slot, patch-keeps, state-fits}
 use Rattle.supervisor.specs.SoundLaws.{StateSound, Loaded, Unloaded, slot-fact, loaded-slot, loaded-live}
 use Rattle.supervisor.specs.Table.{noSlot, slotAt, withSlot, slotWithState, isEmpty, partitionEnd}
@@ -41,7 +41,7 @@ running-refl x g = record { system = g; partitions = λ k. refl; loaded = λ k. 
 
 -- the same bytes are in no partition
 same-in-no-partition : (x y : System) → ((k : ℕ) → slotOf y k .partition ≡ slotOf x k .partition) → ((k : ℕ) → isEmpty (slotOf y k) ≡ isEmpty (slotOf x k)) → (i : ℕ) → InNoPartition i x → InNoPartition i y
-unfolding InNoPartition inPartition
+unfolding InNoPartition isInPartition
 same-in-no-partition x y p m i h = λ k q. rw (p k, m k) (h k q)
 
 pub running-trans : (x y z : System) → DiffersByRunning x y → DiffersByRunning y z → DiffersByRunning x z
@@ -90,7 +90,7 @@ module _ (x : System) (g : SoundSystem x) (k : ℕ) (q : k < 8) where
 
   module _ (m : Loaded (x .table .size) (slotOf x k)) where
     abbrev nextMachine : Machine
-    nextMachine = slotAfterQuantum x k
+    nextMachine = machineAfterQuantum x k
 
     slot-fits-memory : partitionEnd (slotOf x k .partition) ≤ length (x .memory)
     slot-fits-memory = slot-inside x g k q

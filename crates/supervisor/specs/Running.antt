@@ -17,8 +17,8 @@ abbrev pub afterQuantum : Slot → List ℕ → Machine
 afterQuantum s memory = times (s .partition .quantum) machineStep (machineIn s memory)
 
 -- the same of slot k
-abbrev pub slotAfterQuantum : System → ℕ → Machine
-slotAfterQuantum x k = afterQuantum (slotOf x k) (x .memory)
+abbrev pub machineAfterQuantum : System → ℕ → Machine
+machineAfterQuantum x k = afterQuantum (slotOf x k) (x .memory)
 
 -- the machine m written back into slot s: its state, and its bytes
 abbrev pub quantumPatch : Slot → Machine → Patch
@@ -26,7 +26,7 @@ quantumPatch s m = patch (slotWithState s (m .state)) (s .partition .base) (mach
 
 -- slot k's machine runs for one quantum, and the result is written back
 unfoldable pub slotQuantum : ℕ → System → System
-slotQuantum k x = patched x k (quantumPatch (slotOf x k) (slotAfterQuantum x k))
+slotQuantum k x = patched x k (quantumPatch (slotOf x k) (machineAfterQuantum x k))
 
 -- the slots below n take their quanta, in rising number
 unfoldable pub slotQuanta : ℕ → System → System

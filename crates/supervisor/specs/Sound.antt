@@ -5,7 +5,7 @@ use lib.ListN.{getD, length}
 use mathlib.Core.Bool.{Bool, _&&_, _||_, not}
 use mathlib.Core.List.{List, [], _∷_}
 use Rattle.common.specs.Layout.{layoutSound}
-use Rattle.common.specs.Ranges.{isWithin}
+use Rattle.common.specs.Ranges.{isOneTo}
 use Rattle.common.specs.Tests.{all, allBelow}
 use Rattle.cpu.specs.Cpu.{storedPsu}
 use Rattle.cpu.specs.Result.{lastStatus}
@@ -22,7 +22,7 @@ areApart p q = leb (partitionEnd p) (q .base .0) || leb (partitionEnd q) (p .bas
 
 -- a partition in range, inside a memory of that size
 unfoldable pub partitionSound : ℕ → Partition → Bool
-partitionSound size p = all (layoutSound (p .layout) ∷ isWithin (p .quantum) 255 ∷ leb (partitionEnd p) size ∷ [])
+partitionSound size p = all (layoutSound (p .layout) ∷ isOneTo (p .quantum) 255 ∷ leb (partitionEnd p) size ∷ [])
 
 -- return addresses of fifteen bits; a list of zeros
 unfoldable pub allFifteenBits : List ℕ → Bool
@@ -36,7 +36,7 @@ allZero l = allBelow (length l) (λ i. eqb (getD l i 0) 0)
 unfoldable pub stateSound : Layout → State → Bool
 stateSound l s =
     all
-    (isWithin (s .status) lastStatus
+    (isOneTo (s .status) lastStatus
     ∷ ltb (s .cpu .counter) 32768
     ∷ allFifteenBits (s .cpu .returns)
     ∷ eqb (storedPsu (s .cpu .psu)) (s .cpu .psu)
@@ -79,15 +79,15 @@ slotSound size s =
     || partitionSound size (s .partition) && stateSound (s .partition .layout) (s .state)
 
 -- p meets the partition of no slot but one
-unfoldable pub clearOfOthers : Table → ℕ → Partition → Bool
-clearOfOthers t except p = allBelow 8 (λ j. eqb j except || areApart (slotAt t j .partition) p)
+unfoldable pub isClearOfOthers : Table → ℕ → Partition → Bool
+isClearOfOthers t except p = allBelow 8 (λ j. eqb j except || areApart (slotAt t j .partition) p)
 
 -- the memory's length is 1 to 65,536; each of the eight slots is sound; the partitions are disjoint
 unfoldable pub tableSound : Table → Bool
 tableSound t =
     all
-    (isWithin (t .size) 65536
+    (isOneTo (t .size) 65536
     ∷ eqb (length (t .slots)) 8
     ∷ allBelow 8 (λ k. slotSound (t .size) (slotAt t k))
-    ∷ allBelow 8 (λ k. clearOfOthers t k (slotAt t k .partition))
+    ∷ allBelow 8 (λ k. isClearOfOthers t k (slotAt t k .partition))
     ∷ [])

@@ -12,13 +12,13 @@ use lib.ListN.{getD, length, length-set, List·getD-eq-default}
 use lib.Seq.{getD-set-same, getD-set-other}
 use Rattle.common.specs.LayoutLaws.{LayoutSound, layout-fact, layout-test}
 use Rattle.common.specs.Layout.{layoutSize}
-use Rattle.common.specs.TestLaws.{and-fact, and-test, or-fact, or-left, or-right, when-fact, when-test, Within, within-fact, within-test, all-fact, all-test, below-fact, below-test}
+use Rattle.common.specs.TestLaws.{and-fact, and-test, or-fact, or-left, or-right, when-fact, when-test, OneTo, one-to-fact, one-to-test, all-fact, all-test, below-fact, below-test}
 use Rattle.common.specs.declared.layout.Layout.{Layout}
 use Rattle.cpu.specs.Result.{lastStatus}
 use Rattle.cpu.specs.Cpu.{storedPsu}
 use Rattle.cpu.specs.declared.state.State.{State}
 use Rattle.supervisor.specs.Table.{noSlot, slotAt, withSlot, isEmpty, partitionEnd}
-use Rattle.supervisor.specs.Sound.{partitionSound, allFifteenBits, stateSound, isZeroPartition, isZeroState, slotSound, areApart, clearOfOthers, tableSound}
+use Rattle.supervisor.specs.Sound.{partitionSound, allFifteenBits, stateSound, isZeroPartition, isZeroState, slotSound, areApart, isClearOfOthers, tableSound}
 use Rattle.supervisor.specs.declared.table.Partition.{Partition}
 use Rattle.supervisor.specs.declared.table.Slot.{Slot}
 use Rattle.supervisor.specs.declared.table.Table.{Table}
@@ -27,23 +27,23 @@ use Rattle.supervisor.specs.declared.table.Table.{Table}
 
 pub record PartitionSound (size : ℕ) (p : Partition) : Type 0 where
   pub layout : LayoutSound (p .layout)
-  pub quantum : Within (p .quantum) 255
+  pub quantum : OneTo (p .quantum) 255
   pub inside : partitionEnd p ≤ size
 
 partition-fact : (size : ℕ) (p : Partition) → partitionSound size p ≡ true → PartitionSound size p
 unfolding partitionSound
 partition-fact size p h =
     let (layout, (quantum, (inside, _))) = all-fact _ h in
-    record { layout = layout-fact _ layout; quantum = within-fact _ 255 quantum; inside = leb-true _ _ inside }
+    record { layout = layout-fact _ layout; quantum = one-to-fact _ 255 quantum; inside = leb-true _ _ inside }
 
 partition-test : (size : ℕ) (p : Partition) → PartitionSound size p → partitionSound size p ≡ true
 unfolding partitionSound
-partition-test size p f = all-test _ (layout-test _ (f .layout), (within-test _ 255 (f .quantum), (le-leb _ _ (f .inside), tt)))
+partition-test size p f = all-test _ (layout-test _ (f .layout), (one-to-test _ 255 (f .quantum), (le-leb _ _ (f .inside), tt)))
 
 -- ---- what runs in a partition
 
 pub record StateSound (l : Layout) (s : State) : Type 0 where
-  pub status : Within (s .status) lastStatus
+  pub status : OneTo (s .status) lastStatus
   pub counter : s .cpu .counter < 32768
   pub returns : (i : ℕ) → getD (s .cpu .returns) i 0 < 32768
   pub psu : storedPsu (s .cpu .psu) ≡ s .cpu .psu
@@ -71,7 +71,7 @@ module _ (l : Layout) (s : State) where
   state-fact h =
       let (status, (counter, (returns, (psu, (read, (filled, (written, (wants-input, (full, _))))))))) = all-fact _ h in
       record {
-        status = within-fact _ lastStatus status;
+        status = one-to-fact _ lastStatus status;
         counter = ltb-true _ _ counter;
         returns = fifteen-bits-fact (s .cpu .returns) returns;
         psu = eqb-true _ _ psu;
@@ -86,7 +86,7 @@ module _ (l : Layout) (s : State) where
   unfolding stateSound
   state-test f =
       all-test _ (
-        within-test _ lastStatus (f .status),
+        one-to-test _ lastStatus (f .status),
         (
           lt-ltb _ _ (f .counter),
           (
@@ -194,16 +194,16 @@ module _ (t : Table) (except : ℕ) (p : Partition) where
   isClear : ℕ → Bool
   isClear j = eqb j except || areApart (slotAt t j .partition) p
 
-  pub clear-fact : clearOfOthers t except p ≡ true → (j : ℕ) → j < 8 → j ≢ except → Apart (slotAt t j .partition) p
-  unfolding clearOfOthers isClear
+  pub clear-fact : isClearOfOthers t except p ≡ true → (j : ℕ) → j < 8 → j ≢ except → Apart (slotAt t j .partition) p
+  unfolding isClearOfOthers isClear
   clear-fact h j q ne = go (or-fact (eqb j except) (areApart (slotAt t j .partition) p) (below-fact 8 isClear h j q))
     where
       go : (eqb j except ≡ true) ⊎ (areApart (slotAt t j .partition) p ≡ true) → Apart (slotAt t j .partition) p
       go (inl u) = absurd (ne (eqb-true j except u))
       go (inr u) = apart-fact (slotAt t j .partition) p u
 
-  pub clear-test : ((j : ℕ) → j < 8 → j ≢ except → Apart (slotAt t j .partition) p) → clearOfOthers t except p ≡ true
-  unfolding clearOfOthers isClear
+  pub clear-test : ((j : ℕ) → j < 8 → j ≢ except → Apart (slotAt t j .partition) p) → isClearOfOthers t except p ≡ true
+  unfolding isClearOfOthers isClear
   clear-test h = below-test 8 isClear (λ j q. go j q (ℕ-discrete j except))
     where
       go : (j : ℕ) → j < 8 → Dec (j ≡ except) → isClear j ≡ true
@@ -213,7 +213,7 @@ module _ (t : Table) (except : ℕ) (p : Partition) where
 -- ---- a sound table
 
 pub record TableSound (t : Table) : Type 0 where
-  pub size : Within (t .size) 65536
+  pub size : OneTo (t .size) 65536
   pub eight : length (t .slots) ≡ 8
   pub each : (k : ℕ) → k < 8 → slotSound (t .size) (slotAt t k) ≡ true
   pub disjoint : (j k : ℕ) → j < 8 → k < 8 → j ≢ k → Apart (slotAt t j .partition) (slotAt t k .partition)
@@ -223,14 +223,14 @@ module _ (t : Table) where
   slotIsSound k = slotSound (t .size) (slotAt t k)
 
   slotIsClear : ℕ → Bool
-  slotIsClear k = clearOfOthers t k (slotAt t k .partition)
+  slotIsClear k = isClearOfOthers t k (slotAt t k .partition)
 
   pub table-fact : tableSound t ≡ true → TableSound t
   unfolding tableSound slotIsSound slotIsClear
   table-fact h =
       let (size, (eight, (each, (disjoint, _)))) = all-fact _ h in
       record {
-        size = within-fact _ 65536 size;
+        size = one-to-fact _ 65536 size;
         eight = eqb-true _ _ eight;
         each = below-fact 8 slotIsSound each;
         disjoint = λ j k p q ne. clear-fact t k (slotAt t k .partition) (below-fact 8 slotIsClear disjoint k q) j p ne;
@@ -240,7 +240,7 @@ module _ (t : Table) where
   unfolding tableSound slotIsSound slotIsClear
   table-test f =
       all-test _ (
-        within-test _ 65536 (f .size),
+        one-to-test _ 65536 (f .size),
         (
           eq-eqb _ _ (f .eight),
           (

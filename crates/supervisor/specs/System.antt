@@ -26,15 +26,15 @@ slotOf x k = slotAt (x .table) k
 unfoldable pub machineIn : Slot → List ℕ → Machine
 machineIn s memory = machineOf (s .partition .layout) (s .state) (partOf memory (s .partition .base .0) (layoutSize (s .partition .layout)))
 
--- the change of one slot: its new value, and the bytes that are written at a place
+-- the change of one slot: its new value, and the bytes that are written at a location
 pub record Patch : Type 0 where
   pub slot : Slot
-  pub place : Location
+  pub location : Location
   pub bytes : List ℕ
 
 abbrev pub patch : Slot → Location → List ℕ → Patch
-patch s place bytes = record { slot = s; place = place; bytes = bytes }
+patch s location bytes = record { slot = s; location = location; bytes = bytes }
 
 -- slot k changed so
 unfoldable pub patched : System → ℕ → Patch → System
-patched x k p = system (withSlot (x .table) k (p .slot)) (copied (x .memory) (p .place .0) (p .bytes))
+patched x k p = system (withSlot (x .table) k (p .slot)) (copied (x .memory) (p .location .0) (p .bytes))

@@ -6,10 +6,10 @@ use mathlib.Core.Bool.{Bool, not}
 use mathlib.Core.List.{[], _∷_}
 use Rattle.common.specs.Choice.{if_then_else_}
 use Rattle.common.specs.Layout.{layoutSize}
-use Rattle.common.specs.Ranges.{isWithin}
+use Rattle.common.specs.Ranges.{isOneTo}
 use Rattle.common.specs.Refusals.{_gives_, refusalBy}
 use Rattle.cpu.specs.Cpu.{freshCpu}
-use Rattle.cpu.specs.State.{restingState}
+use Rattle.cpu.specs.State.{emptyState}
 use Rattle.cpu.specs.declared.state.State.{State}
 use Rattle.supervisor.specs.declared.table.Partition.{Partition}
 use Rattle.supervisor.specs.declared.table.Slot.{Slot}
@@ -21,7 +21,7 @@ emptyPartition = record { base = record { 0 = 0 }; layout = record { window = 0;
 
 -- what stands past the end of a table's slots: never met, since there are eight
 abbrev pub noSlot : Slot
-noSlot = record { partition = emptyPartition; state = restingState (record { counter = 0; registers = []; psu = 0; psl = 0; returns = [] }) }
+noSlot = record { partition = emptyPartition; state = emptyState (record { counter = 0; registers = []; psu = 0; psl = 0; returns = [] }) }
 
 -- the slot of that number, and the table with another one there
 unfoldable pub slotAt : Table → ℕ → Slot
@@ -38,7 +38,7 @@ slotWithState s z = record { partition = s .partition; state = z }
 abbrev pub isEmpty : Slot → Bool
 isEmpty s = eqb (s .state .status) 0
 
--- the place behind the last byte of a partition
+-- the location behind the last byte of a partition
 abbrev pub partitionEnd : Partition → ℕ
 partitionEnd p = p .base .0 + layoutSize (p .layout)
 
@@ -46,7 +46,7 @@ partitionEnd p = p .base .0 + layoutSize (p .layout)
 
 -- an empty slot is all zero
 unfoldable pub emptySlot : Slot
-emptySlot = record { partition = emptyPartition; state = restingState (freshCpu (record { 0 = 0 })) }
+emptySlot = record { partition = emptyPartition; state = emptyState (freshCpu (record { 0 = 0 })) }
 
 -- a table of eight empty slots, for a memory of that length
 abbrev pub emptyTable : ℕ → Table
@@ -54,7 +54,7 @@ emptyTable size = record { size = size; slots = replicate 8 emptySlot }
 
 -- the number that refuses a new table, 0 for none
 unfoldable pub newRefusal : ℕ → ℕ
-newRefusal length = refusalBy (not (isWithin length 65536) gives 2 ∷ [])
+newRefusal length = refusalBy (not (isOneTo length 65536) gives 2 ∷ [])
 
 -- document 01's fresh record: all slots empty; a refused one is all zero
 unfoldable pub newTable : ℕ → Table

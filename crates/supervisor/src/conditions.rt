@@ -5,18 +5,18 @@ ghost use mathlib.Core.List.{_++_};
 ghost use mathlib.Core.Path.{_≡_};
 ghost use Rattle.common.specs.Refusals.{refusalBy};
 ghost use Rattle.supervisor.specs.System.{system};
-ghost use Rattle.supervisor.specs.Conditions.{tableConditions, memoryConditions, emptyConditions, loadedConditions};
+ghost use Rattle.supervisor.specs.Conditions.{tableConditions, systemConditions, emptySlotConditions, loadedSlotConditions};
 
-// Of a call with a table.
+// The refusal of a call with a table, 0 for none.
 pub(crate) fn table_refusal(table: Table) -> u8
     ensures { λ r. ⌜ r ≡ refusalBy (tableConditions table) ⌝ }
 {
     if table_sound(table) { 0 } else { 1 }
 }
 
-// Of a call with a table and its memory.
-pub(crate) fn memory_refusal(table: Table, memory: &[u8]) -> u8
-    ensures { λ r. ⌜ r ≡ refusalBy (memoryConditions (system table (now (memory .entry)))) ⌝ }
+// The refusal of a call with a table and its memory.
+pub(crate) fn system_refusal(table: Table, memory: &[u8]) -> u8
+    ensures { λ r. ⌜ r ≡ refusalBy (systemConditions (system table (now (memory .entry)))) ⌝ }
 {
     let refusal = table_refusal(table);
     if refusal != 0 {
@@ -28,9 +28,9 @@ pub(crate) fn memory_refusal(table: Table, memory: &[u8]) -> u8
     0
 }
 
-// Of a slot that is to be empty.
-fn empty_refusal(table: Table, slot: usize) -> u8
-    ensures { λ r. ⌜ r ≡ refusalBy (emptyConditions table slot) ⌝ }
+// The refusal by a slot that is to be empty.
+fn empty_slot_refusal(table: Table, slot: usize) -> u8
+    ensures { λ r. ⌜ r ≡ refusalBy (emptySlotConditions table slot) ⌝ }
 {
     if Table::SLOTS <= slot {
         return 3;
@@ -43,9 +43,9 @@ fn empty_refusal(table: Table, slot: usize) -> u8
     0
 }
 
-// Of a slot that is to hold a pattern.
-fn loaded_refusal(table: Table, slot: usize) -> u8
-    ensures { λ r. ⌜ r ≡ refusalBy (loadedConditions table slot) ⌝ }
+// The refusal by a slot that is to hold a pattern.
+fn loaded_slot_refusal(table: Table, slot: usize) -> u8
+    ensures { λ r. ⌜ r ≡ refusalBy (loadedSlotConditions table slot) ⌝ }
 {
     if Table::SLOTS <= slot {
         return 3;
@@ -58,35 +58,35 @@ fn loaded_refusal(table: Table, slot: usize) -> u8
     0
 }
 
-// Of a call with a table and its memory at a slot that is to be empty.
-pub(crate) fn memory_empty_refusal(table: Table, memory: &[u8], slot: usize) -> u8
-    ensures { λ r. ⌜ r ≡ refusalBy (memoryConditions (system table (now (memory .entry))) ++ emptyConditions table slot) ⌝ }
+// The refusal of a call with a table and its memory, at a slot that is to be empty.
+pub(crate) fn system_empty_slot_refusal(table: Table, memory: &[u8], slot: usize) -> u8
+    ensures { λ r. ⌜ r ≡ refusalBy (systemConditions (system table (now (memory .entry))) ++ emptySlotConditions table slot) ⌝ }
 {
-    let refusal = memory_refusal(table, memory);
+    let refusal = system_refusal(table, memory);
     if refusal != 0 {
         return refusal;
     }
-    empty_refusal(table, slot)
+    empty_slot_refusal(table, slot)
 }
 
-// Of a call with a table and its memory at a slot that is to hold a pattern.
-pub(crate) fn memory_loaded_refusal(table: Table, memory: &[u8], slot: usize) -> u8
-    ensures { λ r. ⌜ r ≡ refusalBy (memoryConditions (system table (now (memory .entry))) ++ loadedConditions table slot) ⌝ }
+// The refusal of a call with a table and its memory, at a slot that is to hold a pattern.
+pub(crate) fn system_loaded_slot_refusal(table: Table, memory: &[u8], slot: usize) -> u8
+    ensures { λ r. ⌜ r ≡ refusalBy (systemConditions (system table (now (memory .entry))) ++ loadedSlotConditions table slot) ⌝ }
 {
-    let refusal = memory_refusal(table, memory);
+    let refusal = system_refusal(table, memory);
     if refusal != 0 {
         return refusal;
     }
-    loaded_refusal(table, slot)
+    loaded_slot_refusal(table, slot)
 }
 
-// Of a call with a table alone at a slot that is to hold a pattern.
-pub(crate) fn table_loaded_refusal(table: Table, slot: usize) -> u8
-    ensures { λ r. ⌜ r ≡ refusalBy (tableConditions table ++ loadedConditions table slot) ⌝ }
+// The refusal of a call with a table alone, at a slot that is to hold a pattern.
+pub(crate) fn table_loaded_slot_refusal(table: Table, slot: usize) -> u8
+    ensures { λ r. ⌜ r ≡ refusalBy (tableConditions table ++ loadedSlotConditions table slot) ⌝ }
 {
     let refusal = table_refusal(table);
     if refusal != 0 {
         return refusal;
     }
-    loaded_refusal(table, slot)
+    loaded_slot_refusal(table, slot)
 }

@@ -1,5 +1,5 @@
 // Draining: the written bytes to the front of a lent buffer.
-use crate::conditions::memory_loaded_refusal;
+use crate::conditions::system_loaded_slot_refusal;
 use crate::location::output_location;
 use crate::resuming::resumed_status;
 use crate::table::Slot;
@@ -22,7 +22,7 @@ pub struct DrainAnswer {
 fn drain_refusal(table: Table, memory: &[u8], slot: usize, room: usize) -> u8
     ensures { λ r. ⌜ r ≡ refusal (calls.change slot (calls.drain room)) (system table (now (memory .entry))) ⌝ }
 {
-    let refusal = memory_loaded_refusal(table, memory, slot);
+    let refusal = system_loaded_slot_refusal(table, memory, slot);
     if refusal != 0 {
         return refusal;
     }
@@ -62,8 +62,8 @@ pub fn drain(table: Table, memory: &[u8], slot: usize, buffer: &mut [u8]) -> Dra
     let partition = s.partition;
     let old = s.state;
     let count = old.written as usize;
-    let place = output_location(partition);
-    slices::copy(buffer, 0, slices::part(memory, place.0 as usize, count));
+    let location = output_location(partition);
+    slices::copy(buffer, 0, slices::part(memory, location.0 as usize, count));
     let state = drained_state(old);
     let mut next = table;
     next.slots[slot] = Slot { partition, state };

@@ -1,5 +1,5 @@
 // Feeding: bytes to the front of the input buffer.
-use crate::conditions::memory_loaded_refusal;
+use crate::conditions::system_loaded_slot_refusal;
 use crate::location::input_location;
 use crate::resuming::resumed_status;
 use crate::table::Answer;
@@ -15,7 +15,7 @@ ghost use Rattle.supervisor.specs.Feeding.{fedState};
 fn feed_refusal(table: Table, memory: &[u8], slot: usize, bytes: &[u8]) -> u8
     ensures { λ r. ⌜ r ≡ refusal (calls.change slot (calls.feed (now (bytes .entry)))) (system table (now (memory .entry))) ⌝ }
 {
-    let refusal = memory_loaded_refusal(table, memory, slot);
+    let refusal = system_loaded_slot_refusal(table, memory, slot);
     if refusal != 0 {
         return refusal;
     }
@@ -53,8 +53,8 @@ pub fn feed(table: Table, memory: &mut [u8], slot: usize, bytes: &[u8]) -> Answe
     }
     let s = table.slots[slot];
     let partition = s.partition;
-    let place = input_location(partition);
-    slices::copy(memory, place.0 as usize, bytes);
+    let location = input_location(partition);
+    slices::copy(memory, location.0 as usize, bytes);
     let state = fed_state(bytes.len() as u16, s.state);
     let mut next = table;
     next.slots[slot] = Slot { partition, state };

@@ -1,6 +1,6 @@
 // Loading: a pattern file into an empty slot and its partition.
-use crate::conditions::memory_empty_refusal;
-use crate::sound::clear_of_others;
+use crate::conditions::system_empty_slot_refusal;
+use crate::sound::is_clear_of_others;
 use crate::table::Answer;
 use crate::table::Partition;
 use crate::table::Slot;
@@ -15,27 +15,27 @@ ghost use Rattle.pattern.specs.declared.reader.ReadResult.the-variants.{Accepte
 ghost use Rattle.supervisor.specs.Calls as calls;
 ghost use Rattle.supervisor.specs.Calls.{outcome, outcomeOf};
 ghost use Rattle.supervisor.specs.System.{system, patched};
-ghost use Rattle.supervisor.specs.Loading.{partitionFor, placeConditions, loadPatch};
+ghost use Rattle.supervisor.specs.Loading.{partitionFor, locationConditions, loadPatch};
 
-fn partition_for(base: Location, parameters: Parameters) -> Partition
-    ensures { λ r. ⌜ r ≡ partitionFor base parameters ⌝ }
+fn partition_for(location: Location, parameters: Parameters) -> Partition
+    ensures { λ r. ⌜ r ≡ partitionFor location parameters ⌝ }
 {
     let layout = parameters.layout;
     Partition {
-        base,
+        base: location,
         layout,
         quantum: parameters.quantum,
     }
 }
 
 // Whether a partition passes the memory's end or meets another.
-fn place_refusal(table: Table, slot: usize, p: Partition) -> u8
-    ensures { λ r. ⌜ r ≡ refusalBy (placeConditions table slot p) ⌝ }
+fn location_refusal(table: Table, slot: usize, p: Partition) -> u8
+    ensures { λ r. ⌜ r ≡ refusalBy (locationConditions table slot p) ⌝ }
 {
     if (table.size as usize) < p.end() {
         return 12;
     }
-    if !clear_of_others(table, slot, p) {
+    if !is_clear_of_others(table, slot, p) {
         return 13;
     }
     0
@@ -63,11 +63,11 @@ fn load_slot(
     next
 }
 
-// Document 01's mount. What refuses it comes in the table's order: slot, file, place.
+// Document 01's mount. What refuses it comes in the table's order: slot, file, location.
 pub fn load(table: Table, memory: &mut [u8], slot: usize, location: Location, file: &[u8]) -> Answer
     ensures { λ r. ⌜ outcome (r .refusal) (r .table) (now (memory .exit)) ≡ outcomeOf (calls.change slot (calls.load location (now (file .entry)))) (system table (now (memory .entry))) ⌝ }
 {
-    let refusal = memory_empty_refusal(table, &memory[..], slot);
+    let refusal = system_empty_slot_refusal(table, &memory[..], slot);
     if refusal != 0 {
         return Answer { refusal, table };
     }
@@ -79,12 +79,9 @@ pub fn load(table: Table, memory: &mut [u8], slot: usize, location: Location, fi
         };
     };
     let partition = partition_for(location, parameters);
-    let misplaced = place_refusal(table, slot, partition);
-    if misplaced != 0 {
-        return Answer {
-            refusal: misplaced,
-            table,
-        };
+    let refusal = location_refusal(table, slot, partition);
+    if refusal != 0 {
+        return Answer { refusal, table };
     }
     let next = load_slot(table, memory, slot, partition, parameters, file);
     Answer {

@@ -1,4 +1,4 @@
-// Places in memory, from a partition's addresses.
+// Locations in memory, from a partition's addresses.
 use crate::table::Partition;
 use common::Address;
 use common::Location;
@@ -7,7 +7,7 @@ ghost use Prim.Native.Nat.{_+_, _<_, _≤_};
 ghost use Rattle.supervisor.specs.Table.{partitionEnd};
 ghost use Rattle.supervisor.specs.Location.{locationOf, inputLocation, outputLocation};
 
-// The place of a machine address: the only way from one to the other is the partition's base.
+// The location of a machine address: the only way from one to the other is the partition's base.
 fn location_of(p: Partition, a: Address) -> Location
     requires { ⌜ p .base .0 + a .0 < 4294967296 ⌝ }
     ensures { λ r. ⌜ r ≡ locationOf p a ⌝ }

@@ -1,5 +1,5 @@
 // Reporting on a slot.
-use crate::conditions::table_loaded_refusal;
+use crate::conditions::table_loaded_slot_refusal;
 use crate::reported::Report;
 use crate::table::Table;
 use cpu::State;
@@ -25,7 +25,7 @@ fn reported_psu(s: State) -> u8
 pub fn report(table: Table, slot: usize) -> Report
     ensures { λ r. ⌜ r ≡ reportOf table slot ⌝ }
 {
-    let refusal = table_loaded_refusal(table, slot);
+    let refusal = table_loaded_slot_refusal(table, slot);
     if refusal != 0 {
         return Report {
             refusal,

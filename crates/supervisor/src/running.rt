@@ -10,7 +10,7 @@ ghost use Rattle.supervisor.specs.System.{system};
 ghost use Rattle.supervisor.specs.Running.{machineBytes, afterQuantum, afterRun};
 ghost use Rattle.supervisor.specs.Table.{partitionEnd};
 ghost use Rattle.supervisor.specs.Sound.{tableSound};
-use crate::conditions::memory_refusal;
+use crate::conditions::system_refusal;
 use crate::table::Answer;
 use crate::table::Slot;
 use crate::table::Table;
@@ -24,21 +24,21 @@ fn run_quantum(slot: Slot, memory: &mut [u8]) -> State
 {
     let p = slot.partition;
     let s = slot.state;
-    let place = p.base;
+    let location = p.base;
     let layout = p.layout;
-    let base = place.0 as usize;
+    let base = location.0 as usize;
     let end = base + layout.window as usize + layout.input as usize + layout.output as usize;
     cpu::run(s, &mut memory[base..end], layout, p.quantum as u64)
 }
 
 // Rounds over all slots, the table changed in place. A slot that is empty or stopped costs a test.
-fn run_rounds(table: Table, memory: &mut [u8], count: u16) -> Table
+fn run_rounds(table: Table, memory: &mut [u8], rounds: u16) -> Table
     requires { ⌜ tableSound table ≡ true ⌝ }
     requires { ⌜ length (now memory) ≡ table .size ⌝ }
-    ensures { λ r. ⌜ system r (now (memory .exit)) ≡ afterRun count (system table (now (memory .entry))) ⌝ }
+    ensures { λ r. ⌜ system r (now (memory .exit)) ≡ afterRun rounds (system table (now (memory .entry))) ⌝ }
 {
     let mut next = table;
-    let mut left = count;
+    let mut left = rounds;
     while 0 < left {
         let mut k: usize = 0;
         while k < Table::SLOTS {
@@ -57,14 +57,14 @@ fn run_rounds(table: Table, memory: &mut [u8], count: u16) -> Table
 }
 
 // Document 01's pass, so many times.
-pub fn run(table: Table, memory: &mut [u8], count: u16) -> Answer
-    ensures { λ r. ⌜ outcome (r .refusal) (r .table) (now (memory .exit)) ≡ outcomeOf (calls.run count) (system table (now (memory .entry))) ⌝ }
+pub fn run(table: Table, memory: &mut [u8], rounds: u16) -> Answer
+    ensures { λ r. ⌜ outcome (r .refusal) (r .table) (now (memory .exit)) ≡ outcomeOf (calls.run rounds) (system table (now (memory .entry))) ⌝ }
 {
-    let refusal = memory_refusal(table, &memory[..]);
+    let refusal = system_refusal(table, &memory[..]);
     if refusal != 0 {
         return Answer { refusal, table };
     }
-    let next = run_rounds(table, memory, count);
+    let next = run_rounds(table, memory, rounds);
     Answer {
         refusal: 0,
         table: next,

@@ -3,19 +3,19 @@ use crate::table::Partition;
 use crate::table::Slot;
 use crate::table::Table;
 use common::Layout;
-use common::is_within;
+use common::is_one_to;
 use cpu::State;
 use cpu::stored_psu;
 ghost use mathlib.Core.Path.{_≡_};
 ghost use Rattle.common.specs.Tests.{allBelow};
 ghost use Rattle.supervisor.specs.Table.{slotAt};
-ghost use Rattle.supervisor.specs.Sound.{allFifteenBits, allZero, partitionSound, stateSound, isZeroPartition, isZeroState, slotSound, areApart, clearOfOthers, tableSound};
+ghost use Rattle.supervisor.specs.Sound.{allFifteenBits, allZero, partitionSound, stateSound, isZeroPartition, isZeroState, slotSound, areApart, isClearOfOthers, tableSound};
 
 fn partition_sound(size: u32, p: Partition) -> bool
     ensures { λ r. ⌜ r ≡ partitionSound size p ⌝ }
 {
     let layout = p.layout;
-    layout.is_sound() & is_within(p.quantum as usize, 255) & (p.end() <= size as usize)
+    layout.is_sound() & is_one_to(p.quantum as usize, 255) & (p.end() <= size as usize)
 }
 
 // Whether each address has fifteen bits.
@@ -60,7 +60,7 @@ fn state_sound(layout: Layout, s: State) -> bool
 {
     let cpu = s.cpu;
     let returns = cpu.returns;
-    is_within(s.status as usize, State::LAST_STATUS as usize)
+    is_one_to(s.status as usize, State::LAST_STATUS as usize)
         & (cpu.counter < 32768)
         & all_fifteen_bits(&returns)
         & (stored_psu(cpu.psu) == cpu.psu)
@@ -121,8 +121,8 @@ fn are_apart(p: Partition, q: Partition) -> bool
 }
 
 // Whether `p` meets the partition of no slot but one.
-pub(crate) fn clear_of_others(table: Table, except: usize, p: Partition) -> bool
-    ensures { λ r. ⌜ r ≡ clearOfOthers table except p ⌝ }
+pub(crate) fn is_clear_of_others(table: Table, except: usize, p: Partition) -> bool
+    ensures { λ r. ⌜ r ≡ isClearOfOthers table except p ⌝ }
 {
     let mut ok = true;
     let mut j: usize = 0;
@@ -149,14 +149,14 @@ fn slots_sound(table: Table) -> bool
 }
 
 fn slots_apart(table: Table) -> bool
-    ensures { λ r. ⌜ r ≡ allBelow 8 (λ k. clearOfOthers table k (slotAt table k .partition)) ⌝ }
+    ensures { λ r. ⌜ r ≡ allBelow 8 (λ k. isClearOfOthers table k (slotAt table k .partition)) ⌝ }
 {
     let mut ok = true;
     let mut k: usize = 0;
     while k < Table::SLOTS {
         let s = table.slots[k];
         let p = s.partition;
-        ok = ok & clear_of_others(table, k, p);
+        ok = ok & is_clear_of_others(table, k, p);
         k += 1;
     }
     ok
@@ -166,5 +166,5 @@ fn slots_apart(table: Table) -> bool
 pub(crate) fn table_sound(table: Table) -> bool
     ensures { λ r. ⌜ r ≡ tableSound table ⌝ }
 {
-    is_within(table.size as usize, Table::MAX_MEMORY) & slots_sound(table) & slots_apart(table)
+    is_one_to(table.size as usize, Table::MAX_MEMORY) & slots_sound(table) & slots_apart(table)
 }

@@ -2,7 +2,7 @@
 use common::Address;
 use common::Layout;
 use common::Location;
-use common::is_within;
+use common::is_one_to;
 use cpu::Cpu;
 use cpu::State;
 ghost use mathlib.Core.Path.{_≡_};
@@ -33,7 +33,7 @@ impl Partition {
         }
     }
 
-    // The place behind its last byte.
+    // The location behind its last byte.
     pub(crate) fn end(self) -> usize
         ensures { λ r. ⌜ r ≡ partitionEnd self ⌝ }
     {
@@ -55,7 +55,7 @@ impl Slot {
     {
         Slot {
             partition: Partition::empty(),
-            state: State::resting(Cpu::fresh(Address(0))),
+            state: State::empty(Cpu::fresh(Address(0))),
         }
     }
 }
@@ -66,7 +66,8 @@ pub struct Table {
     pub slots: [Slot; 8],
 }
 
-// The refusal, 0 for none, and the table: the given one where a call is refused.
+// The refusal, 0 for none, and the table: the given one where a call is refused. A refused `Table::new`, which is given none, has an
+// all-zero one.
 pub struct Answer {
     pub refusal: u8,
     pub table: Table,
@@ -91,7 +92,7 @@ impl Table {
         ensures { λ r. ⌜ r .refusal ≡ newRefusal length ⌝ }
         ensures { λ r. ⌜ r .table ≡ newTable length ⌝ }
     {
-        if !is_within(length, Table::MAX_MEMORY) {
+        if !is_one_to(length, Table::MAX_MEMORY) {
             let table = Table::empty(0);
             return Answer { refusal: 2, table };
         }

@@ -1,5 +1,5 @@
 // Unloading: the partition is zeroed, so that nothing of the pattern is left, and the slot emptied.
-use crate::conditions::memory_loaded_refusal;
+use crate::conditions::system_loaded_slot_refusal;
 use crate::table::Answer;
 use crate::table::Slot;
 use crate::table::Table;
@@ -12,7 +12,7 @@ ghost use Rattle.supervisor.specs.System.{system};
 pub fn unload(table: Table, memory: &mut [u8], slot: usize) -> Answer
     ensures { λ r. ⌜ outcome (r .refusal) (r .table) (now (memory .exit)) ≡ outcomeOf (calls.change slot calls.unload) (system table (now (memory .entry))) ⌝ }
 {
-    let refusal = memory_loaded_refusal(table, &memory[..], slot);
+    let refusal = system_loaded_slot_refusal(table, &memory[..], slot);
     if refusal != 0 {
         return Answer { refusal, table };
     }

@@ -8,7 +8,7 @@ use slices::u16_at;
 ghost use Prim.Native.Nat.{_<_};
 
 // The length of the numbers at the front.
-const NUMBERS: usize = 26;
+const NUMBERS_LENGTH: usize = 26;
 
 fn name_length(entry: &[u8]) -> u16 {
     u16_at(entry, 0)
@@ -27,21 +27,21 @@ pub(crate) fn length(entry: &[u8]) -> usize
     ensures { λ r. ⌜ 0 < r ⌝ }
     ensures { λ r. ⌜ r < 1048576 ⌝ }
 {
-    NUMBERS
+    NUMBERS_LENGTH
         + name_length(entry) as usize
         + text_length(entry) as usize
         + packed_length(entry) as usize
 }
 
 pub(crate) fn name(entry: &[u8]) -> &[u8] {
-    part(entry, NUMBERS, name_length(entry) as usize)
+    part(entry, NUMBERS_LENGTH, name_length(entry) as usize)
 }
 
 // What the bench run must print.
 pub(crate) fn wanted_text(entry: &[u8]) -> &[u8] {
     part(
         entry,
-        NUMBERS + name_length(entry) as usize,
+        NUMBERS_LENGTH + name_length(entry) as usize,
         text_length(entry) as usize,
     )
 }
@@ -49,7 +49,7 @@ pub(crate) fn wanted_text(entry: &[u8]) -> &[u8] {
 pub(crate) fn packed(entry: &[u8]) -> &[u8] {
     part(
         entry,
-        NUMBERS + name_length(entry) as usize + text_length(entry) as usize,
+        NUMBERS_LENGTH + name_length(entry) as usize + text_length(entry) as usize,
         packed_length(entry) as usize,
     )
 }

@@ -14,7 +14,7 @@ use crate::packing::unpack;
 use crate::printing::print;
 use crate::printing::print_number;
 use crate::reading::same_reading;
-use crate::writing::same_again;
+use crate::writing::rewrites_same;
 use slices::front;
 use slices::rest;
 use std::num::wrapping_add_u64;
@@ -54,7 +54,7 @@ fn compare(entry: &[u8], tally: Tally) -> Tally {
     let accepted = read.refusal() == 0;
     let same = is_whole(entry)
         & same_reading(entry, file)
-        & same_again(entry, file)
+        & rewrites_same(entry, file)
         & same_text(entry, file);
     counted(tally, accepted, same)
 }

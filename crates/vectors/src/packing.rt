@@ -6,22 +6,22 @@ use slices::front;
 use slices::rest;
 use slices::u16_at;
 
-// What the head of a repeated byte has more than its count.
-const REPEATED: u16 = 32768;
+// Added to the count in the head of a piece that repeats one byte.
+const REPEATED_FLAG: u16 = 32768;
 
 // How many bytes of the file a piece is.
 fn count(head: u16) -> u16 {
-    head % REPEATED
+    head % REPEATED_FLAG
 }
 
 // How many bytes stand behind the head of a piece.
 fn stored(head: u16) -> u16 {
-    if head < REPEATED { head } else { 1 }
+    if head < REPEATED_FLAG { head } else { 1 }
 }
 
 // Puts a piece into `file`: the bytes behind its head, or the first of them repeated.
 fn put_piece(head: u16, bytes: &[u8], file: &mut [u8], at: usize) {
-    if head < REPEATED {
+    if head < REPEATED_FLAG {
         copy(file, at, front(bytes, head as usize));
     } else {
         fill(file, at, count(head) as usize, byte(bytes, 0));

@@ -20,13 +20,13 @@ fn write_again(file: &[u8], parameters: Parameters, buffer: &mut [u8]) -> usize 
         pattern::input_body(file),
         buffer,
     ) {
-        WriteResult::Length(n) => n,
+        WriteResult::Written(n) => n,
         WriteResult::Refused(_) => 0,
     }
 }
 
 // Whether the file comes out again, or is refused; a difference is printed.
-pub(crate) fn same_again(entry: &[u8], file: &[u8]) -> bool {
+pub(crate) fn rewrites_same(entry: &[u8], file: &[u8]) -> bool {
     let answer = pattern::read(file);
     let ReadResult::Accepted(parameters) = answer else {
         return true;

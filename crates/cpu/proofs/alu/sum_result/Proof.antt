@@ -15,8 +15,8 @@ digit-carry-requires c κs = search needs
 overflow-requires : tie.Need-overflow-requires
 overflow-requires c κs = (c .before .before .before .pre, (c .before .before .of .ensures .1 .0, c .before .before .of .ensures .1 .1))
 
-with-flags-requires : tie.Need-with-flags-requires
-with-flags-requires c κs = search needs
+with-arithmetic-bits-requires : tie.Need-with-arithmetic-bits-requires
+with-arithmetic-bits-requires c κs = search needs
 
 returns : tie.Need-returns
 unfolding sumResultOf
@@ -27,9 +27,9 @@ returns c = (
     ← c .before .before .digit-carry .ensures .0,
     ← c .before .overflow .ensures .0,
     ← c .before .before .before .before .of .ensures .1 .0,
-    ← c .with-flags .ensures .0,
+    ← c .with-arithmetic-bits .ensures .0,
   ),
-  c .with-flags .ensures .1,
+  c .with-arithmetic-bits .ensures .1,
 )
 
 pub sum-result-spec : {M : Type 1} → statement M
@@ -40,5 +40,5 @@ sum-result-spec =
     condition-code-requires
     digit-carry-requires
     overflow-requires
-    with-flags-requires
+    with-arithmetic-bits-requires
     returns)

@@ -1,4 +1,4 @@
-use Rattle.cpu.specs.Address.{ifLocated}
+use Rattle.cpu.specs.Address.{ifResolved}
 use Rattle.cpu.specs.Branch.{branchIfTakenOf}
 use Rattle.common.specs.Choice.{if_then_else_}
 use mathlib.Core.Path.{_∙_, sym}
@@ -22,7 +22,7 @@ stopped-requires : tie.Need-stopped-requires
 stopped-requires c κs = search needs
 
 returns : tie.Need-returns
-unfolding branchIfTakenOf ifLocated if_then_else_
+unfolding branchIfTakenOf ifResolved if_then_else_
 returns c =
     rw (
       sym (c .before .before .before .before .before .is-taken .ensures) ∙ c .before .before .before .before .if1 .taken,
@@ -43,7 +43,7 @@ running-requires : tie.Need-running-requires
 running-requires c κs = search needs
 
 returns-2 : tie.Need-returns-2
-unfolding branchIfTakenOf ifLocated if_then_else_
+unfolding branchIfTakenOf ifResolved if_then_else_
 returns-2 c =
     rw (
       sym (c .before .before .before .before .before .before .before .is-taken .ensures) ∙ c .before .before .before .before .before .before .if1 .taken,
@@ -53,7 +53,7 @@ returns-2 c =
     )
 
 returns-3 : tie.Need-returns-3
-unfolding branchIfTakenOf ifLocated if_then_else_
+unfolding branchIfTakenOf ifResolved if_then_else_
 returns-3 c =
     rw (
       sym (c .before .before .before .is-taken .ensures) ∙ c .before .before .if1 .left,

@@ -1,4 +1,4 @@
-use Rattle.cpu.specs.Address.{ifLocated, ifFetched}
+use Rattle.cpu.specs.Address.{ifResolved, ifFetched}
 use Rattle.cpu.specs.Branch.{indexedBranchOf}
 use mathlib.Core.Path.{_∙_, sym}
 use borrow.Author.Needs.{needs}
@@ -21,7 +21,7 @@ stopped-requires : tie.Need-stopped-requires
 stopped-requires c κs = search needs
 
 returns : tie.Need-returns
-unfolding indexedBranchOf ifFetched ifLocated
+unfolding indexedBranchOf ifFetched ifResolved
 returns c =
     rw (
       ← c .before .before .before .before .address-after .ensures,
@@ -45,7 +45,7 @@ stopped-requires-2 : tie.Need-stopped-requires-2
 stopped-requires-2 c κs = search needs
 
 returns-2 : tie.Need-returns-2
-unfolding indexedBranchOf ifFetched ifLocated
+unfolding indexedBranchOf ifFetched ifResolved
 returns-2 c =
     rw (
       ← c .before .before .before .before .before .before .before .before .before .address-after .ensures,
@@ -71,7 +71,7 @@ stopped-requires-3 : tie.Need-stopped-requires-3
 stopped-requires-3 c κs = search needs
 
 returns-3 : tie.Need-returns-3
-unfolding indexedBranchOf ifFetched ifLocated
+unfolding indexedBranchOf ifFetched ifResolved
 returns-3 c =
     rw (
       ← c .before .before .before .before .before .before .before .before .before .before .before .before .before .before .address-after .ensures,
@@ -96,7 +96,7 @@ jump-requires : tie.Need-jump-requires
 jump-requires c κs = search needs
 
 returns-4 : tie.Need-returns-4
-unfolding indexedBranchOf ifFetched ifLocated
+unfolding indexedBranchOf ifFetched ifResolved
 returns-4 c =
     rw (
       ← c .before .before .before .before .before .before .before .before .before .before .before .before .before .before .before .before .before .before .address-after .ensures,

@@ -1,4 +1,4 @@
-use Rattle.cpu.specs.Address.{ifLocated, ifFetched}
+use Rattle.cpu.specs.Address.{ifResolved, ifFetched}
 use Rattle.cpu.specs.Branch.{zeroBranchOf}
 use mathlib.Core.Path.{_∙_, sym}
 use borrow.Author.Needs.{needs}
@@ -21,7 +21,7 @@ stopped-requires : tie.Need-stopped-requires
 stopped-requires c κs = search needs
 
 returns : tie.Need-returns
-unfolding zeroBranchOf ifFetched ifLocated
+unfolding zeroBranchOf ifFetched ifResolved
 returns c =
     rw (
       ← c .before .before .before .before .address-after .ensures,
@@ -45,7 +45,7 @@ stopped-requires-2 : tie.Need-stopped-requires-2
 stopped-requires-2 c κs = search needs
 
 returns-2 : tie.Need-returns-2
-unfolding zeroBranchOf ifFetched ifLocated
+unfolding zeroBranchOf ifFetched ifResolved
 returns-2 c =
     rw (
       ← c .before .before .before .before .before .before .before .before .before .address-after .ensures,
@@ -62,7 +62,7 @@ jump-requires : tie.Need-jump-requires
 jump-requires c κs = search needs
 
 returns-3 : tie.Need-returns-3
-unfolding zeroBranchOf ifFetched ifLocated
+unfolding zeroBranchOf ifFetched ifResolved
 returns-3 c =
     rw (
       ← c .before .before .before .before .before .before .before .before .before .before .before .address-after .ensures,

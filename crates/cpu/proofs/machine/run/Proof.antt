@@ -1,5 +1,5 @@
 use Prim.Native.Nat.{_+_, _-_, _<_, _≤_, ℕ}
-use Rattle.cpu.proofs.PartitionLaws.{beyond-law, end-law, iteration-steps, bounds-inside, positions-law, status-at, view-law}
+use Rattle.cpu.proofs.PartitionLaws.{beyond-law, bounds-end-law, iteration-steps, bounds-inside, positions-law, status-at, machine-by-bounds-law}
 use Rattle.cpu.specs.PackedCpu.{cpuOf}
 use Rattle.cpu.specs.Machine.{Machine, machineOf, machineStep}
 use Rattle.cpu.specs.State.{withCpu, withStatus, withRead, withWritten}
@@ -111,12 +111,12 @@ returns c = let here = c .before .before .before .before .loop in
     (c .before .before .before .loop-test .came) in
     let first : before ≡ machineOf (args .layout) (args .state) (args .partition .now) =
     ap (λ (n : Cpu). machineByBounds (args .state) (start .result) n (args .state .status) k₀ (args .partition .now)) (c .before .before .before .before .before .before .before .pack .ensures)
-    ∙ view-law (args .layout) (args .state) (args .state) (start .result) _ k₀ (args .partition .now) (start .ensures .0) refl in
+    ∙ machine-by-bounds-law (args .layout) (args .state) (args .state) (start .result) _ k₀ (args .partition .now) (start .ensures .0) refl in
     let s : State = withWritten (here .k .written) (withRead (here .k .read) (withStatus (here .status) (withCpu (c .before .before .unpack .result) (args .state)))) in
     let last : machineOf (args .layout) s (here .partition) ≡ after =
-    sym (view-law (args .layout) (args .state) s (start .result) _ (here .k) (here .partition) (start .ensures .0) refl)
+    sym (machine-by-bounds-law (args .layout) (args .state) s (start .result) _ (here .k) (here .partition) (start .ensures .0) refl)
     ∙ ap (λ (n : Cpu). machineByBounds (args .state) (start .result) n (here .status) (here .k) (here .partition)) (c .before .before .unpack .ensures) in
-    let past : start .result .end ≡ args .layout .window + args .layout .input + args .layout .output = end-law _ _ _ _ _ _ (start .ensures .0) in (
+    let past : start .result .end ≡ args .layout .window + args .layout .input + args .layout .output = bounds-end-law _ _ _ _ _ _ (start .ensures .0) in (
       last ∙ done ∙ ap (times (args .steps) machineStep) first,
       ap (λ (n : ℕ). drop n (here .partition)) (sym past) ∙ here .inv .5 ∙ ap (λ (n : ℕ). drop n (args .partition .now)) past,
     )

@@ -1,4 +1,4 @@
-use Rattle.cpu.specs.Address.{ifLocated, ifFetched}
+use Rattle.cpu.specs.Address.{ifResolved, ifFetched}
 use Rattle.cpu.specs.Operand.{absoluteOperandOf}
 use mathlib.Core.Path.{_∙_, sym}
 use borrow.Author.Needs.{needs}
@@ -18,7 +18,7 @@ enum-told : tie.Need-enum-told
 enum-told c = search needs
 
 returns : tie.Need-returns
-unfolding absoluteOperandOf ifFetched ifLocated
+unfolding absoluteOperandOf ifFetched ifResolved
 returns c =
     rw (
       ← c .before .before .before .address-after .ensures,
@@ -38,7 +38,7 @@ enum-told-2 : tie.Need-enum-told-2
 enum-told-2 c = search needs
 
 returns-2 : tie.Need-returns-2
-unfolding absoluteOperandOf ifFetched ifLocated
+unfolding absoluteOperandOf ifFetched ifResolved
 returns-2 c =
     rw (
       ← c .before .before .before .before .before .before .before .before .address-after .ensures,
@@ -50,8 +50,8 @@ returns-2 c =
 register-requires : tie.Need-register-requires
 register-requires c κs = search needs
 
-index-requires : tie.Need-index-requires
-index-requires c κs = search needs
+index-value-requires : tie.Need-index-value-requires
+index-value-requires c κs = search needs
 
 data-address-requires : tie.Need-data-address-requires
 data-address-requires c κs = search needs
@@ -66,7 +66,7 @@ enum-told-3 : tie.Need-enum-told-3
 enum-told-3 c = search needs
 
 returns-3 : tie.Need-returns-3
-unfolding absoluteOperandOf ifFetched ifLocated
+unfolding absoluteOperandOf ifFetched ifResolved
 returns-3 c =
     rw (
       ← c .before .before .before .before .before .before .before .before .before .before .before .before .before .before .before .address-after .ensures,
@@ -74,7 +74,7 @@ returns-3 c =
       ← c .before .before .before .before .before .before .before .before .before .before .address-after2 .ensures,
       sym (c .before .before .before .before .before .before .before .before .before .fetch2 .ensures) ∙ c .before .before .before .before .before .before .before .low .given .1,
       ← c .before .before .before .before .before .register .ensures,
-      ← c .before .before .before .before .index .ensures,
+      ← c .before .before .before .before .index-value .ensures,
       ← c .before .before .before .data-address .ensures,
       sym (c .before .before .indexed-address .ensures) ∙ c .enum-told3 .given .1,
     )
@@ -89,7 +89,7 @@ enum-told-4 : tie.Need-enum-told-4
 enum-told-4 c = search needs
 
 returns-4 : tie.Need-returns-4
-unfolding absoluteOperandOf ifFetched ifLocated
+unfolding absoluteOperandOf ifFetched ifResolved
 returns-4 c =
     rw (
       ← c .before .before .before .before .before .before .before .before .before .before .before .before .before .before .before .before .before .before .before .address-after .ensures,
@@ -97,7 +97,7 @@ returns-4 c =
       ← c .before .before .before .before .before .before .before .before .before .before .before .before .before .before .address-after2 .ensures,
       sym (c .before .before .before .before .before .before .before .before .before .before .before .before .before .fetch2 .ensures) ∙ c .before .before .before .before .before .before .before .before .before .before .before .low .given .1,
       ← c .before .before .before .before .before .before .before .before .before .register .ensures,
-      ← c .before .before .before .before .before .before .before .before .index .ensures,
+      ← c .before .before .before .before .before .before .before .before .index-value .ensures,
       ← c .before .before .before .before .before .before .before .data-address .ensures,
       sym (c .before .before .before .before .before .before .indexed-address .ensures) ∙ c .before .before .before .before .a .given .1,
       sym (c .before .before .fetch3 .ensures) ∙ c .enum-told4 .given .1,
@@ -110,7 +110,7 @@ advanced-requires : tie.Need-advanced-requires
 advanced-requires c κs = search needs
 
 returns-5 : tie.Need-returns-5
-unfolding absoluteOperandOf ifFetched ifLocated
+unfolding absoluteOperandOf ifFetched ifResolved
 returns-5 c =
     rw (
       ← c .before .before .before .before .before .before .before .before .before .before .before .before .before .before .before .before .before .before .before .before .before .before .address-after .ensures,
@@ -118,7 +118,7 @@ returns-5 c =
       ← c .before .before .before .before .before .before .before .before .before .before .before .before .before .before .before .before .before .address-after2 .ensures,
       sym (c .before .before .before .before .before .before .before .before .before .before .before .before .before .before .before .before .fetch2 .ensures) ∙ c .before .before .before .before .before .before .before .before .before .before .before .before .before .before .low .given .1,
       ← c .before .before .before .before .before .before .before .before .before .before .before .before .register .ensures,
-      ← c .before .before .before .before .before .before .before .before .before .before .before .index .ensures,
+      ← c .before .before .before .before .before .before .before .before .before .before .before .index-value .ensures,
       ← c .before .before .before .before .before .before .before .before .before .before .data-address .ensures,
       sym (c .before .before .before .before .before .before .before .before .before .indexed-address .ensures) ∙ c .before .before .before .before .before .before .before .a .given .1,
       sym (c .before .before .before .before .before .fetch3 .ensures) ∙ c .before .before .before .b .given .1,
@@ -141,7 +141,7 @@ absolute-operand-spec =
     enum-told-2
     returns-2
     register-requires
-    index-requires
+    index-value-requires
     data-address-requires
     indexed-address-requires
     enum-known-a

@@ -1,4 +1,4 @@
-use Rattle.cpu.specs.Address.{ifLocated}
+use Rattle.cpu.specs.Address.{ifResolved}
 use Rattle.common.specs.Choice.{if_then_else_}
 use Rattle.cpu.specs.Operand.{indexedAddressOf}
 use borrow.Author.Tests.{eq-eqb, ne-eqb}
@@ -11,7 +11,7 @@ add-in-page-requires : tie.Need-add-in-page-requires
 add-in-page-requires c κs = search needs
 
 returns : tie.Need-returns
-unfolding indexedAddressOf ifLocated if_then_else_
+unfolding indexedAddressOf ifResolved if_then_else_
 returns c =
     rw (
       eq-eqb _ _ (c .before .if1 .taken),
@@ -28,7 +28,7 @@ enum-told : tie.Need-enum-told
 enum-told c = search needs
 
 returns-2 : tie.Need-returns-2
-unfolding indexedAddressOf ifLocated if_then_else_
+unfolding indexedAddressOf ifResolved if_then_else_
 returns-2 c =
     rw (
       ne-eqb _ _ (c .before .before .before .if1 .left),
@@ -39,7 +39,7 @@ add-wrapping-requires : tie.Need-add-wrapping-requires
 add-wrapping-requires c κs = search needs
 
 returns-3 : tie.Need-returns-3
-unfolding indexedAddressOf ifLocated if_then_else_
+unfolding indexedAddressOf ifResolved if_then_else_
 returns-3 c =
     rw (
       ne-eqb _ _ (c .before .before .before .before .before .if1 .left),

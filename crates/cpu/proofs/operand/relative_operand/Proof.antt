@@ -1,4 +1,4 @@
-use Rattle.cpu.specs.Address.{ifLocated, ifFetched}
+use Rattle.cpu.specs.Address.{ifResolved, ifFetched}
 use Rattle.common.specs.Choice.{if_then_else_}
 use Rattle.cpu.specs.Operand.{dataRegisterOf, relativeOperandOf}
 use mathlib.Core.Path.{_∙_, sym}
@@ -19,7 +19,7 @@ enum-told : tie.Need-enum-told
 enum-told c = search needs
 
 returns : tie.Need-returns
-unfolding relativeOperandOf dataRegisterOf ifFetched ifLocated if_then_else_
+unfolding relativeOperandOf dataRegisterOf ifFetched ifResolved if_then_else_
 returns c =
     rw (
       ← c .before .before .before .address-after .ensures,
@@ -42,7 +42,7 @@ enum-told-2 : tie.Need-enum-told-2
 enum-told-2 c = search needs
 
 returns-2 : tie.Need-returns-2
-unfolding relativeOperandOf dataRegisterOf ifFetched ifLocated if_then_else_
+unfolding relativeOperandOf dataRegisterOf ifFetched ifResolved if_then_else_
 returns-2 c =
     rw (
       ← c .before .before .before .before .before .before .before .before .before .address-after .ensures,
@@ -62,7 +62,7 @@ enum-told-3 : tie.Need-enum-told-3
 enum-told-3 c = search needs
 
 returns-3 : tie.Need-returns-3
-unfolding relativeOperandOf dataRegisterOf ifFetched ifLocated if_then_else_
+unfolding relativeOperandOf dataRegisterOf ifFetched ifResolved if_then_else_
 returns-3 c =
     rw (
       ← c .before .before .before .before .before .before .before .before .before .before .before .before .before .address-after .ensures,
@@ -77,7 +77,7 @@ advanced-requires : tie.Need-advanced-requires
 advanced-requires c κs = search needs
 
 returns-4 : tie.Need-returns-4
-unfolding relativeOperandOf dataRegisterOf ifFetched ifLocated if_then_else_
+unfolding relativeOperandOf dataRegisterOf ifFetched ifResolved if_then_else_
 returns-4 c =
     rw (
       ← c .before .before .before .before .before .before .before .before .before .before .before .before .before .before .before .address-after .ensures,

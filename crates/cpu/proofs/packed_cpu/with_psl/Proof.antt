@@ -11,11 +11,11 @@ use Rattle.cpu.proofs.packed_cpu.with_psl.Tie as tie
 psl-requires : tie.Need-psl-requires
 psl-requires c κs = search needs
 
-with-psl-in-bank-requires : tie.Need-with-psl-in-bank-requires
-with-psl-in-bank-requires c κs = c .if1 .taken ∙ ap bitRS (c .before .psl .ensures)
+with-psl-same-bank-requires : tie.Need-with-psl-same-bank-requires
+with-psl-same-bank-requires c κs = c .if1 .taken ∙ ap bitRS (c .before .psl .ensures)
 
 returns : tie.Need-returns
-returns c = c .with-psl-in-bank .ensures
+returns c = c .with-psl-same-bank .ensures
 
 swap-banks-requires : tie.Need-swap-banks-requires
 swap-banks-requires c κs = search needs
@@ -26,4 +26,4 @@ returns-2 c = let l = c .before .before .before .fits .p .fits in let m = c .bef
     rw (e, c .swap-banks .ensures, swap-twice (m .psl % 256 / 16 % 2) (p / 16 % 2) (m .registers) (omega arith) (omega arith) (λ h. c .before .if1 .left (h ∙ ap bitRS (sym (c .before .before .psl .ensures)))))
 
 pub with-psl-spec : {M : Type 1} → statement M
-with-psl-spec = tie.close (tie.spec psl-requires with-psl-in-bank-requires returns swap-banks-requires returns-2)
+with-psl-spec = tie.close (tie.spec psl-requires with-psl-same-bank-requires returns swap-banks-requires returns-2)

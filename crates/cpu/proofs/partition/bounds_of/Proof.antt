@@ -4,11 +4,11 @@ use borrow.Author.Needs.{needs}
 use Rattle.cpu.proofs.partition.bounds_of.Statement.{statement}
 use Rattle.cpu.proofs.partition.bounds_of.Tie as tie
 
-add-i : tie.Need-add-i
-add-i c = search needs
+add-output-start : tie.Need-add-output-start
+add-output-start c = search needs
 
-add-o : tie.Need-add-o
-add-o c = search needs
+add-end : tie.Need-add-end
+add-end c = search needs
 
 min-requires : tie.Need-min-requires
 min-requires c κs = search needs
@@ -27,4 +27,4 @@ returns c = let start = c .before .before .before in let w = start .fits .window
 )
 
 pub bounds-of-spec : {M : Type 1} → statement M
-bounds-of-spec = tie.close (tie.spec add-i add-o min-requires min-requires-2 min-requires-3 returns)
+bounds-of-spec = tie.close (tie.spec add-output-start add-end min-requires min-requires-2 min-requires-3 returns)

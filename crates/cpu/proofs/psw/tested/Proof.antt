@@ -38,8 +38,8 @@ psl-requires c κs = search needs
 with-cc-requires : tie.Need-with-cc-requires
 with-cc-requires c κs = search needs
 
-with-psl-in-bank-requires : tie.Need-with-psl-in-bank-requires
-with-psl-in-bank-requires c κs = search needs
+with-psl-same-bank-requires : tie.Need-with-psl-same-bank-requires
+with-psl-same-bank-requires c κs = search needs
 
 advanced-requires : tie.Need-advanced-requires
 advanced-requires c κs = search needs
@@ -56,7 +56,7 @@ returns-2 c =
       ← c .before .before .before .before .before .test-cc .ensures .0,
       ← c .before .before .before .before .psl .ensures,
       ← c .before .before .before .with-cc .ensures .0,
-      ← c .before .before .with-psl-in-bank .ensures,
+      ← c .before .before .with-psl-same-bank .ensures,
       ← c .before .advanced .ensures,
       ← c .running .ensures,
     )
@@ -74,7 +74,7 @@ tested-spec =
     test-cc-requires
     psl-requires
     with-cc-requires
-    with-psl-in-bank-requires
+    with-psl-same-bank-requires
     advanced-requires
     running-requires
     returns-2)

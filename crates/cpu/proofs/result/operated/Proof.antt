@@ -9,8 +9,8 @@ register-requires c κs = search needs
 psl-requires : tie.Need-psl-requires
 psl-requires c κs = search needs
 
-operate-requires : tie.Need-operate-requires
-operate-requires c κs = search needs
+operation-result-requires : tie.Need-operation-result-requires
+operation-result-requires c κs = search needs
 
 with-alu-result-requires : tie.Need-with-alu-result-requires
 with-alu-result-requires c κs = search needs
@@ -24,7 +24,7 @@ returns c =
     rw (
       ← c .before .before .before .before .register .ensures,
       ← c .before .before .before .psl .ensures,
-      ← c .before .before .operate .ensures .0,
+      ← c .before .before .operation-result .ensures .0,
       ← c .before .with-alu-result .ensures,
       ← c .running .ensures,
     )
@@ -35,7 +35,7 @@ operated-spec =
     (tie.spec
     register-requires
     psl-requires
-    operate-requires
+    operation-result-requires
     with-alu-result-requires
     running-requires
     returns)

@@ -9,17 +9,17 @@ use Rattle.cpu.proofs.result.with_alu_result.Tie as tie
 with-register-requires : tie.Need-with-register-requires
 with-register-requires c κs = search needs
 
-with-psl-in-bank-requires : tie.Need-with-psl-in-bank-requires
+with-psl-same-bank-requires : tie.Need-with-psl-same-bank-requires
 unfolding pslOf withRegister
-with-psl-in-bank-requires c κs = c .before .pre .1 ∙ ap (λ (n : Cpu). bitRS (pslOf n)) (sym (c .with-register .ensures))
+with-psl-same-bank-requires c κs = c .before .pre .1 ∙ ap (λ (n : Cpu). bitRS (pslOf n)) (sym (c .with-register .ensures))
 
 returns : tie.Need-returns
 unfolding withAluResult
 returns c =
     rw (
       ← c .before .with-register .ensures,
-      ← c .with-psl-in-bank .ensures,
+      ← c .with-psl-same-bank .ensures,
     )
 
 pub with-alu-result-spec : {M : Type 1} → statement M
-with-alu-result-spec = tie.close (tie.spec with-register-requires with-psl-in-bank-requires returns)
+with-alu-result-spec = tie.close (tie.spec with-register-requires with-psl-same-bank-requires returns)

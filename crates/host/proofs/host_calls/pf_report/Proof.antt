@@ -31,8 +31,8 @@ answer-requires-3 c κs = search needs
 returns-3 : tie.Need-returns-3
 returns-3 c = report-short (now (c .before .before .before .before .before .before .before .before .args .table)) (c .before .before .before .before .before .before .before .before .args .slot) (now (c .before .before .before .before .before .before .before .before .args .report)) (c .before .before .before .before .before .if1 .left) (c .before .before .before .before .decode-table .result) (c .before .before .before .report .result) (c .before .before .before .before .decode-table .ensures) (c .before .before .before .report .ensures) (c .before .before .if2 .left) _ (c .before .if3 .taken) (c .answer3 .ensures)
 
-report-bytes-requires : tie.Need-report-bytes-requires
-report-bytes-requires c κs = search needs
+encode-report-requires : tie.Need-encode-report-requires
+encode-report-requires c κs = search needs
 
 slice-aggregate-copy : tie.Need-slice-aggregate-copy
 slice-aggregate-copy c = search needs
@@ -47,8 +47,8 @@ same-length : tie.Need-same-length
 same-length c = search needs
 
 returns-4 : tie.Need-returns-4
-returns-4 c = let size : length (c .before .before .before .before .before .before .report-bytes .result) ≡ 12 = search needs in
-    report-made (now (c .before .before .before .before .before .before .before .before .before .before .before .before .before .before .args .table)) (c .before .before .before .before .before .before .before .before .before .before .before .before .before .before .args .slot) (now (c .before .before .before .before .before .before .before .before .before .before .before .before .before .before .args .report)) (c .before .before .before .before .before .before .before .before .before .before .before .if1 .left) (c .before .before .before .before .before .before .before .before .before .before .decode-table .result) (c .before .before .before .before .before .before .before .before .before .report .result) (c .before .before .before .before .before .before .before .before .before .before .decode-table .ensures) (c .before .before .before .before .before .before .before .before .before .report .ensures) (c .before .before .before .before .before .before .before .before .if2 .left) _ _ (c .before .before .before .before .before .before .before .if3 .left) (c .answer4 .ensures) (sym (ap length (c .before .before .before .before .before .before .report-bytes .ensures)) ∙ size) (c .before .before .before .copy .ensures ∙ ap (copied (now (c .before .before .before .before .before .before .before .before .before .before .before .before .before .before .args .report)) 0) (c .before .before .before .before .before .before .report-bytes .ensures))
+returns-4 c = let size : length (c .before .before .before .before .before .before .encode-report .result) ≡ 12 = search needs in
+    report-made (now (c .before .before .before .before .before .before .before .before .before .before .before .before .before .before .args .table)) (c .before .before .before .before .before .before .before .before .before .before .before .before .before .before .args .slot) (now (c .before .before .before .before .before .before .before .before .before .before .before .before .before .before .args .report)) (c .before .before .before .before .before .before .before .before .before .before .before .if1 .left) (c .before .before .before .before .before .before .before .before .before .before .decode-table .result) (c .before .before .before .before .before .before .before .before .before .report .result) (c .before .before .before .before .before .before .before .before .before .before .decode-table .ensures) (c .before .before .before .before .before .before .before .before .before .report .ensures) (c .before .before .before .before .before .before .before .before .if2 .left) _ _ (c .before .before .before .before .before .before .before .if3 .left) (c .answer4 .ensures) (sym (ap length (c .before .before .before .before .before .before .encode-report .ensures)) ∙ size) (c .before .before .before .copy .ensures ∙ ap (copied (now (c .before .before .before .before .before .before .before .before .before .before .before .before .before .before .args .report)) 0) (c .before .before .before .before .before .before .encode-report .ensures))
 
 pub pf-report-spec : {M : Type 1} → statement M
 pf-report-spec =
@@ -62,7 +62,7 @@ pf-report-spec =
     returns-2
     answer-requires-3
     returns-3
-    report-bytes-requires
+    encode-report-requires
     slice-aggregate-copy
     copy-requires
     answer-requires-4

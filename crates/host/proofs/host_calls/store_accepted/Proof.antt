@@ -1,24 +1,24 @@
 use borrow.Author.Tests.{eq-eqb, ne-eqb}
 use mathlib.Core.Path.{refl}
 use Rattle.common.specs.Choice.{if_then_else_}
-use Rattle.host.specs.HostCalls.{bytesAfter}
+use Rattle.host.specs.HostCalls.{tableBytesAfter}
 use borrow.Author.Needs.{needs}
 use Rattle.host.proofs.host_calls.store_accepted.Statement.{statement}
 use Rattle.host.proofs.host_calls.store_accepted.Tie as tie
 
-encode-table-requires : tie.Need-encode-table-requires
-encode-table-requires c κs = search needs
+put-table-requires : tie.Need-put-table-requires
+put-table-requires c κs = search needs
 
 same-length : tie.Need-same-length
 same-length c = search needs
 
 returns : tie.Need-returns
-unfolding bytesAfter if_then_else_
-returns c = rw (eq-eqb _ _ (c .before .before .before .before .if1 .taken)) (c .before .before .encode-table .ensures)
+unfolding tableBytesAfter if_then_else_
+returns c = rw (eq-eqb _ _ (c .before .before .before .before .if1 .taken)) (c .before .before .put-table .ensures)
 
 returns-2 : tie.Need-returns-2
-unfolding bytesAfter if_then_else_
+unfolding tableBytesAfter if_then_else_
 returns-2 c = rw (ne-eqb _ _ (c .if1 .left)) refl
 
 pub store-accepted-spec : {M : Type 1} → statement M
-store-accepted-spec = tie.close (tie.spec encode-table-requires same-length returns returns-2)
+store-accepted-spec = tie.close (tie.spec put-table-requires same-length returns returns-2)

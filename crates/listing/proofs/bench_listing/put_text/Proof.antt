@@ -1,5 +1,5 @@
 use native.Mathlib.Omega.{arith}
-use Rattle.listing.proofs.BenchRunLaws.{long-text, refused-load, end-sound, end-loaded, after-rounds-text}
+use Rattle.listing.proofs.BenchRunLaws.{long-text, refused-load, end-sound, end-loaded, after-bench-rounds-text}
 use borrow.Author.Needs.{needs}
 use Rattle.listing.proofs.bench_listing.put_text.Statement.{statement}
 use Rattle.listing.proofs.bench_listing.put_text.Tie as tie
@@ -44,7 +44,7 @@ same-length-5 : tie.Need-same-length-5
 same-length-5 c = search needs
 
 returns-3 : tie.Need-returns-3
-returns-3 c = let put = c .before .before .put-report-and-output .ensures in let text = after-rounds-text _ _ (c .before .before .before .before .before .before .before .before .before .before .before .before .before .before .before .before .before .before .if1 .left) _ _ _ _ (c .before .before .before .before .before .before .before .before .before .before .before .before .before .before .before .before .before .new .ensures .1) (c .before .before .before .before .before .before .before .before .before .before .before .before .before .before .load .ensures) (c .before .before .before .before .before .before .before .before .before .before .if2 .left) (c .before .before .before .before .before .before .before .before .before .before .before .before .before .before .before .before .before .before .before .before .before .before .pre .0) _ _ (c .before .before .before .before .before .before .before .run-until-stopped .ensures) _ _ _ (put .0, put .1 .0) in (text .0, (text .1 .0, (text .1 .1, omega (arith, put .1 .1))))
+returns-3 c = let put = c .before .before .put-report-and-output .ensures in let text = after-bench-rounds-text _ _ (c .before .before .before .before .before .before .before .before .before .before .before .before .before .before .before .before .before .before .if1 .left) _ _ _ _ (c .before .before .before .before .before .before .before .before .before .before .before .before .before .before .before .before .before .new .ensures .1) (c .before .before .before .before .before .before .before .before .before .before .before .before .before .before .load .ensures) (c .before .before .before .before .before .before .before .before .before .before .if2 .left) (c .before .before .before .before .before .before .before .before .before .before .before .before .before .before .before .before .before .before .before .before .before .before .pre .0) _ _ (c .before .before .before .before .before .before .before .run-until-stopped .ensures) _ _ _ (put .0, put .1 .0) in (text .0, (text .1 .0, (text .1 .1, omega (arith, put .1 .1))))
 
 pub put-text-spec : {M : Type 1} → statement M
 put-text-spec =

@@ -1,4 +1,4 @@
-use Rattle.listing.specs.Text.{hexByte, hexWord}
+use Rattle.listing.specs.Text.{hexByte, hexU16}
 use Rattle.listing.specs.TextLaws.{one-digit}
 use borrow.Author.Needs.{needs}
 use Rattle.listing.proofs.text.put_status_and_counter.Statement.{statement}
@@ -35,7 +35,7 @@ same-length : tie.Need-same-length
 same-length c = search needs
 
 returns : tie.Need-returns
-unfolding hexByte hexWord
+unfolding hexByte hexU16
 returns c = rw (one-digit _ (c .before .before .before .before .before .before .before .before .before .before .pre), ← c .before .before .before .before .before .before .before .before .hex-digit .ensures, ← c .before .before .before .before .before .before .before .hex-digit2 .ensures, ← c .before .before .before .before .before .before .hex-digit3 .ensures, ← c .before .before .before .before .before .hex-digit4 .ensures) (c .before .before .copy .ensures)
 
 pub put-status-and-counter-spec : {M : Type 1} → statement M

@@ -1,4 +1,4 @@
--- `loader::fresh::fresh_state`: a state at rest that is set running.
+-- `loader::fresh::fresh_state`: an empty state that is set running.
 use Rattle.loader.specs.Fresh.{freshState}
 use borrow.Author.Needs.{needs}
 use Rattle.loader.proofs.fresh.fresh_state.Statement.{statement}
@@ -7,12 +7,12 @@ use Rattle.loader.proofs.fresh.fresh_state.Tie as tie
 fresh-requires : tie.Need-fresh-requires
 fresh-requires c κs = search needs
 
-resting-requires : tie.Need-resting-requires
-resting-requires c κs = search needs
+empty-requires : tie.Need-empty-requires
+empty-requires c κs = search needs
 
 returns : tie.Need-returns
 unfolding freshState
-returns c = rw (c .resting .ensures, c .before .fresh .ensures)
+returns c = rw (c .empty .ensures, c .before .fresh .ensures)
 
 pub fresh-state-spec : {M : Type 1} → statement M
-fresh-state-spec = tie.close (tie.spec fresh-requires resting-requires returns)
+fresh-state-spec = tie.close (tie.spec fresh-requires empty-requires returns)

@@ -21,7 +21,7 @@ enum-told c = search needs
 returns : tie.Need-returns
 returns c =
     let start = c .before .before .before .before .before .args in
-    put-refused (now (start .file)) (now (start .memory)) (start .place .0) (c .before .before .read .ensures) (c .enum-told .given .1)
+    put-refused (now (start .file)) (now (start .memory)) (start .location .0) (c .before .before .read .ensures) (c .enum-told .given .1)
 
 cast-at : tie.Need-cast-at
 cast-at c = search needs
@@ -29,7 +29,7 @@ cast-at c = search needs
 returns-2 : tie.Need-returns-2
 returns-2 c =
     let start = c .before .before .before .before .before .before .before .before .before .args in
-    put-left (now (start .file)) (now (start .memory)) (start .place .0) (c .before .before .before .before .before .before .read .ensures) (c .before .before .before .before .answer .given .1) (omega (arith, c .if1 .taken))
+    put-left (now (start .file)) (now (start .memory)) (start .location .0) (c .before .before .before .before .before .before .read .ensures) (c .before .before .before .before .answer .given .1) (omega (arith, c .if1 .taken))
 
 sub-if2 : tie.Need-sub-if2
 sub-if2 c = search needs
@@ -40,7 +40,7 @@ size-requires c κs = search needs
 returns-3 : tie.Need-returns-3
 returns-3 c =
     let start = c .before .before .before .before .before .before .before .before .before .before .before .args in
-    put-left (now (start .file)) (now (start .memory)) (start .place .0) (c .before .before .before .before .before .before .before .before .read .ensures) (c .before .before .before .before .before .before .answer .given .1) (omega (arith, c .before .before .if1 .left, c .if2 .taken, c .before .size .ensures))
+    put-left (now (start .file)) (now (start .memory)) (start .location .0) (c .before .before .before .before .before .before .before .before .read .ensures) (c .before .before .before .before .before .before .answer .given .1) (omega (arith, c .before .before .if1 .left, c .if2 .taken, c .before .size .ensures))
 
 code-body-requires : tie.Need-code-body-requires
 code-body-requires c κs = search needs
@@ -60,7 +60,7 @@ same-length c = search needs
 returns-4 : tie.Need-returns-4
 returns-4 c =
     let start = c .before .before .before .before .before .before .before .before .before .before .before .before .before .before .before .before .before .args in
-    c .before .before .put-parts .ensures ∙ rw (c .before .before .before .before .code-body .ensures, c .before .before .before .input-body .ensures) (ap (copied (now (start .memory)) (start .place .0)) (put-parts (now (start .file)) (now (start .memory)) (start .place .0) (c .before .before .before .before .before .before .before .before .before .before .before .before .before .before .read .ensures) (c .before .before .before .before .before .before .before .before .before .before .before .before .answer .given .1)))
+    c .before .before .put-parts .ensures ∙ rw (c .before .before .before .before .code-body .ensures, c .before .before .before .input-body .ensures) (ap (copied (now (start .memory)) (start .location .0)) (put-parts (now (start .file)) (now (start .memory)) (start .location .0) (c .before .before .before .before .before .before .before .before .before .before .before .before .before .before .read .ensures) (c .before .before .before .before .before .before .before .before .before .before .before .before .answer .given .1)))
 
 pub put-fresh-bytes-spec : {M : Type 1} → statement M
 put-fresh-bytes-spec =

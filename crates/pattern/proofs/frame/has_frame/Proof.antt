@@ -1,5 +1,5 @@
 -- `pattern::frame::has_frame`: each test is the one that the definition makes.
-use Rattle.common.specs.Tests.{allAfter}
+use Rattle.common.specs.Tests.{andAll}
 use Rattle.pattern.specs.Frame.{hasFrame}
 use borrow.Author.Needs.{needs}
 use Rattle.pattern.proofs.frame.has_frame.Statement.{statement}
@@ -15,7 +15,7 @@ record-length-requires : tie.Need-record-length-requires
 record-length-requires c κs = search needs
 
 returns : tie.Need-returns
-unfolding hasFrame allAfter
+unfolding hasFrame andAll
 returns c = rw (c .before .before .byte .ensures, c .before .byte2 .ensures, c .record-length .ensures .0)
 
 pub has-frame-spec : {M : Type 1} → statement M

@@ -6,8 +6,8 @@ use Rattle.pattern.proofs.reader.code_offset.Tie as tie
 record-length-requires : tie.Need-record-length-requires
 record-length-requires c κs = search needs
 
-after-record-requires : tie.Need-after-record-requires
-after-record-requires c κs = search needs
+behind-record-requires : tie.Need-behind-record-requires
+behind-record-requires c κs = search needs
 
 record-length-requires-2 : tie.Need-record-length-requires-2
 record-length-requires-2 c κs = search needs
@@ -19,14 +19,14 @@ add-result-2 : tie.Need-add-result-2
 add-result-2 c = search needs
 
 returns : tie.Need-returns
-returns c = rw (c .before .before .record-length .ensures .0, c .record-length2 .ensures .0, c .before .after-record .ensures)
+returns c = rw (c .before .before .record-length .ensures .0, c .record-length2 .ensures .0, c .before .behind-record .ensures)
 
 pub code-offset-spec : {M : Type 1} → statement M
 code-offset-spec =
     tie.close
     (tie.spec
     record-length-requires
-    after-record-requires
+    behind-record-requires
     record-length-requires-2
     add-result
     add-result-2

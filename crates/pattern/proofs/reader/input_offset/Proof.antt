@@ -3,8 +3,8 @@ use borrow.Author.Needs.{needs}
 use Rattle.pattern.proofs.reader.input_offset.Statement.{statement}
 use Rattle.pattern.proofs.reader.input_offset.Tie as tie
 
-after-record-requires : tie.Need-after-record-requires
-after-record-requires c κs = search needs
+behind-record-requires : tie.Need-behind-record-requires
+behind-record-requires c κs = search needs
 
 record-length-requires : tie.Need-record-length-requires
 record-length-requires c κs = search needs
@@ -15,8 +15,8 @@ record-length-requires-2 c κs = search needs
 add-result : tie.Need-add-result
 add-result c = search needs
 
-after-record-requires-2 : tie.Need-after-record-requires-2
-after-record-requires-2 c κs = search needs
+behind-record-requires-2 : tie.Need-behind-record-requires-2
+behind-record-requires-2 c κs = search needs
 
 record-length-requires-3 : tie.Need-record-length-requires-3
 record-length-requires-3 c κs = search needs
@@ -28,17 +28,17 @@ add-result-3 : tie.Need-add-result-3
 add-result-3 c = search needs
 
 returns : tie.Need-returns
-returns c = rw (c .before .before .before .record-length .ensures .0, c .before .before .record-length2 .ensures .0, c .record-length3 .ensures .0, c .before .after-record2 .ensures, c .before .before .before .before .after-record .ensures)
+returns c = rw (c .before .before .before .record-length .ensures .0, c .before .before .record-length2 .ensures .0, c .record-length3 .ensures .0, c .before .behind-record2 .ensures, c .before .before .before .before .behind-record .ensures)
 
 pub input-offset-spec : {M : Type 1} → statement M
 input-offset-spec =
     tie.close
     (tie.spec
-    after-record-requires
+    behind-record-requires
     record-length-requires
     record-length-requires-2
     add-result
-    after-record-requires-2
+    behind-record-requires-2
     record-length-requires-3
     add-result-2
     add-result-3

@@ -1,7 +1,7 @@
 -- `pattern::reader::read_code`: each return is the first condition that holds.
 use borrow.Author.Tests.{lt-ltb, le-ltb}
 use Rattle.pattern.specs.Reader.{codeConditions}
-use Rattle.common.specs.RefusalDefinitions.{condition-definitions}
+use Rattle.common.specs.ConditionDefinitions.{condition-definitions}
 use borrow.Author.Needs.{needs}
 use Rattle.pattern.proofs.reader.read_code.Statement.{statement}
 use Rattle.pattern.proofs.reader.read_code.Tie as tie

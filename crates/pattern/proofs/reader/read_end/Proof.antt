@@ -1,7 +1,7 @@
 -- `pattern::reader::read_end`: each return is the first condition that holds.
 use borrow.Author.Tests.{lt-ltb, le-ltb}
 use Rattle.pattern.specs.Reader.{endConditions}
-use Rattle.common.specs.RefusalDefinitions.{condition-definitions}
+use Rattle.common.specs.ConditionDefinitions.{condition-definitions}
 use borrow.Author.Needs.{needs}
 use Rattle.pattern.proofs.reader.read_end.Statement.{statement}
 use Rattle.pattern.proofs.reader.read_end.Tie as tie

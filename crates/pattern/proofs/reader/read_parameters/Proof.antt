@@ -1,6 +1,6 @@
 -- `pattern::reader::read_parameters`: each return is the first condition that holds.
 use Rattle.pattern.specs.Reader.{parametersConditions}
-use Rattle.common.specs.RefusalDefinitions.{condition-definitions}
+use Rattle.common.specs.ConditionDefinitions.{condition-definitions}
 use borrow.Author.Needs.{needs}
 use Rattle.pattern.proofs.reader.read_parameters.Statement.{statement}
 use Rattle.pattern.proofs.reader.read_parameters.Tie as tie
@@ -18,16 +18,16 @@ body-requires c κs = search needs
 decode-parameters-requires : tie.Need-decode-parameters-requires
 decode-parameters-requires c κs = search needs
 
-in-range-requires : tie.Need-in-range-requires
-in-range-requires c κs = search needs
+is-in-range-requires : tie.Need-is-in-range-requires
+is-in-range-requires c κs = search needs
 
 returns-2 : tie.Need-returns-2
 unfolding condition-definitions parametersConditions
-returns-2 c = simp (← c .before .before .before .before .before .has-frame-of-length .ensures, c .before .before .before .before .if1 .left, ← c .before .before .before .body .ensures, ← c .before .before .decode-parameters .ensures, ← c .before .in-range .ensures, c .if2 .taken)
+returns-2 c = simp (← c .before .before .before .before .before .has-frame-of-length .ensures, c .before .before .before .before .if1 .left, ← c .before .before .before .body .ensures, ← c .before .before .decode-parameters .ensures, ← c .before .is-in-range .ensures, c .if2 .taken)
 
 returns-3 : tie.Need-returns-3
 unfolding condition-definitions parametersConditions
-returns-3 c = simp (← c .before .before .before .before .before .has-frame-of-length .ensures, c .before .before .before .before .if1 .left, ← c .before .before .before .body .ensures, ← c .before .before .decode-parameters .ensures, ← c .before .in-range .ensures, c .if2 .left)
+returns-3 c = simp (← c .before .before .before .before .before .has-frame-of-length .ensures, c .before .before .before .before .if1 .left, ← c .before .before .before .body .ensures, ← c .before .before .decode-parameters .ensures, ← c .before .is-in-range .ensures, c .if2 .left)
 
 pub read-parameters-spec : {M : Type 1} → statement M
 read-parameters-spec =
@@ -37,6 +37,6 @@ read-parameters-spec =
     returns
     body-requires
     decode-parameters-requires
-    in-range-requires
+    is-in-range-requires
     returns-2
     returns-3)

@@ -1,7 +1,7 @@
 -- `pattern::reader::read_version`: each return is the first condition that holds.
 use borrow.Author.Tests.{eq-eqb, ne-eqb}
 use Rattle.pattern.specs.Reader.{versionConditions}
-use Rattle.common.specs.RefusalDefinitions.{condition-definitions}
+use Rattle.common.specs.ConditionDefinitions.{condition-definitions}
 use borrow.Author.Needs.{needs}
 use Rattle.pattern.proofs.reader.read_version.Statement.{statement}
 use Rattle.pattern.proofs.reader.read_version.Tie as tie

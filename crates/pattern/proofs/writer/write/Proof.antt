@@ -11,18 +11,18 @@ use Rattle.pattern.specs.ImageLaws.{trim-short}
 use Rattle.pattern.specs.Writer.{smallestLength, fileOf, writeOf, writeConditions}
 use Rattle.pattern.specs.WriterLaws.{file-length}
 use Rattle.pattern.proofs.WritingLaws.{refused-leaves, accepted-puts}
-use Rattle.common.specs.RefusalDefinitions.{condition-definitions}
+use Rattle.common.specs.ConditionDefinitions.{condition-definitions}
 use borrow.Author.Needs.{needs}
 use Rattle.pattern.proofs.writer.write.Statement.{statement}
 use Rattle.pattern.proofs.writer.write.Tie as tie
 
-in-range-requires : tie.Need-in-range-requires
-in-range-requires c κs = search needs
+is-in-range-requires : tie.Need-is-in-range-requires
+is-in-range-requires c κs = search needs
 
 returns : tie.Need-returns
 unfolding condition-definitions writeOf writeConditions
 returns c = let a = c .before .before .before .before .before .args in
-    refused-leaves (a .parameters) (now (a .image)) (now (a .input)) (now (a .buffer)) 9 (simp (← c .before .in-range .ensures, c .if1 .taken))
+    refused-leaves (a .parameters) (now (a .image)) (now (a .input)) (now (a .buffer)) 9 (simp (← c .before .is-in-range .ensures, c .if1 .taken))
 
 cast-if2 : tie.Need-cast-if2
 cast-if2 c = search needs
@@ -30,7 +30,7 @@ cast-if2 c = search needs
 returns-2 : tie.Need-returns-2
 unfolding condition-definitions writeOf writeConditions
 returns-2 c = let a = c .before .before .before .before .before .before .before .before .args in
-    refused-leaves (a .parameters) (now (a .image)) (now (a .input)) (now (a .buffer)) 9 (simp (← c .before .before .before .before .in-range .ensures, c .before .before .before .if1 .left, ne-eqb _ _ (c .if2 .taken)))
+    refused-leaves (a .parameters) (now (a .image)) (now (a .input)) (now (a .buffer)) 9 (simp (← c .before .before .before .before .is-in-range .ensures, c .before .before .before .if1 .left, ne-eqb _ _ (c .if2 .taken)))
 
 cast-if3 : tie.Need-cast-if3
 cast-if3 c = search needs
@@ -38,7 +38,7 @@ cast-if3 c = search needs
 returns-3 : tie.Need-returns-3
 unfolding condition-definitions writeOf writeConditions
 returns-3 c = let a = c .before .before .before .before .before .before .before .before .before .before .args in
-    refused-leaves (a .parameters) (now (a .image)) (now (a .input)) (now (a .buffer)) 11 (simp (← c .before .before .before .before .before .before .in-range .ensures, c .before .before .before .before .before .if1 .left, eq-eqb _ _ (c .before .before .if2 .left), lt-ltb _ _ (c .if3 .taken)))
+    refused-leaves (a .parameters) (now (a .image)) (now (a .input)) (now (a .buffer)) 11 (simp (← c .before .before .before .before .before .before .is-in-range .ensures, c .before .before .before .before .before .if1 .left, eq-eqb _ _ (c .before .before .if2 .left), lt-ltb _ _ (c .if3 .taken)))
 
 trim-requires : tie.Need-trim-requires
 trim-requires c κs = search needs
@@ -56,7 +56,7 @@ returns-4 c = let a = c .before .before .before .before .before .before .before 
     rw (c .before .trim .ensures) (file-length (a .parameters) (trim (now (a .image))) (now (a .input)))
     in
     refused-leaves (a .parameters) (now (a .image)) (now (a .input)) (now (a .buffer)) 16
-    (simp (← c .before .before .before .before .before .before .before .before .in-range .ensures, c .before .before .before .before .before .before .before .if1 .left, eq-eqb _ _ (c .before .before .before .before .if2 .left), le-ltb _ _ (c .before .before .if3 .left), size, lt-ltb _ _ (c .if4 .taken)))
+    (simp (← c .before .before .before .before .before .before .before .before .is-in-range .ensures, c .before .before .before .before .before .before .before .if1 .left, eq-eqb _ _ (c .before .before .before .before .if2 .left), le-ltb _ _ (c .before .before .if3 .left), size, lt-ltb _ _ (c .if4 .taken)))
 
 put-records-requires : tie.Need-put-records-requires
 put-records-requires c κs =
@@ -72,7 +72,7 @@ returns-5 c = let a = c .before .before .before .before .before .before .before 
     in
     accepted-puts (a .parameters) (now (a .image)) (now (a .input)) (now (a .buffer)) _ (smallestLength (formOf (a .parameters)) + length (now (c .before .before .before .before .before .trim .result)) + length (now (a .input)))
     (record {
-      range = sym (c .before .before .before .before .before .before .before .before .before .before .before .before .in-range .ensures) ∙ not-false (c .before .before .before .before .before .before .before .before .before .before .before .before .in-range .result) (c .before .before .before .before .before .before .before .before .before .before .before .if1 .left);
+      range = sym (c .before .before .before .before .before .before .before .before .before .before .before .before .is-in-range .ensures) ∙ not-false (c .before .before .before .before .before .before .before .before .before .before .before .before .is-in-range .result) (c .before .before .before .before .before .before .before .before .before .before .before .if1 .left);
       whole = c .before .before .before .before .before .before .before .before .if2 .left;
       few = c .before .before .before .before .before .before .if3 .left;
       fits = omega (arith, c .before .before .before .before .if4 .left);
@@ -84,7 +84,7 @@ pub write-spec : {M : Type 1} → statement M
 write-spec =
     tie.close
     (tie.spec
-    in-range-requires
+    is-in-range-requires
     returns
     cast-if2
     returns-2

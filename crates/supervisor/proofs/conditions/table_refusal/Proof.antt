@@ -1,6 +1,6 @@
 -- `supervisor::conditions::table_refusal`: by its two branches.
 use Rattle.supervisor.specs.Conditions.{tableConditions}
-use Rattle.common.specs.RefusalDefinitions.{condition-definitions}
+use Rattle.common.specs.ConditionDefinitions.{condition-definitions}
 use borrow.Author.Needs.{needs}
 use Rattle.supervisor.proofs.conditions.table_refusal.Statement.{statement}
 use Rattle.supervisor.proofs.conditions.table_refusal.Tie as tie

@@ -10,39 +10,39 @@ use borrow.Author.Needs.{needs}
 use Rattle.supervisor.proofs.reporting.report.Statement.{statement}
 use Rattle.supervisor.proofs.reporting.report.Tie as tie
 
-table-loaded-refusal-requires : tie.Need-table-loaded-refusal-requires
-table-loaded-refusal-requires c κs = search needs
+table-loaded-slot-refusal-requires : tie.Need-table-loaded-slot-refusal-requires
+table-loaded-slot-refusal-requires c κs = search needs
 
 returns : tie.Need-returns
 unfolding reportOf queryConditions if_then_else_
-returns c = rw (← c .before .table-loaded-refusal .ensures, ne-eqb _ _ (c .if1 .taken))
+returns c = rw (← c .before .table-loaded-slot-refusal .ensures, ne-eqb _ _ (c .if1 .taken))
 
 mul-s : tie.Need-mul-s
 mul-s c =
     let start = c .before .before .args in
-    omega (arith, holds-pattern (start .t1) (start .slot) (c .before .table-loaded-refusal .ensures) (c .if1 .left) .slot)
+    omega (arith, holds-pattern (start .t1) (start .slot) (c .before .table-loaded-slot-refusal .ensures) (c .if1 .left) .slot)
 
 element-copy-out-s : tie.Need-element-copy-out-s
 element-copy-out-s c =
     let start = c .before .before .args in
-    omega (arith, holds-pattern (start .t1) (start .slot) (c .before .table-loaded-refusal .ensures) (c .if1 .left) .slot)
+    omega (arith, holds-pattern (start .t1) (start .slot) (c .before .table-loaded-slot-refusal .ensures) (c .if1 .left) .slot)
 
 reported-psu-requires : tie.Need-reported-psu-requires
 unfolding slotAt
 reported-psu-requires c κs =
     let start = c .before .before .before .before .before .before .args in
-    psu-small (start .t1) (start .slot) (holds-pattern (start .t1) (start .slot) (c .before .before .before .before .before .table-loaded-refusal .ensures) (c .before .before .before .before .if1 .left))
+    psu-small (start .t1) (start .slot) (holds-pattern (start .t1) (start .slot) (c .before .before .before .before .before .table-loaded-slot-refusal .ensures) (c .before .before .before .before .if1 .left))
 
 returns-2 : tie.Need-returns-2
 unfolding reportOf queryConditions slotAt if_then_else_
 returns-2 c =
-    rw (← c .before .before .before .before .before .before .table-loaded-refusal .ensures, eq-eqb _ _ (c .before .before .before .before .before .if1 .left), c .reported-psu .ensures)
+    rw (← c .before .before .before .before .before .before .table-loaded-slot-refusal .ensures, eq-eqb _ _ (c .before .before .before .before .before .if1 .left), c .reported-psu .ensures)
 
 pub report-spec : {M : Type 1} → statement M
 report-spec =
     tie.close
     (tie.spec
-    table-loaded-refusal-requires
+    table-loaded-slot-refusal-requires
     returns
     mul-s
     element-copy-out-s

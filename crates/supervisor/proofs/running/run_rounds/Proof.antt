@@ -1,5 +1,5 @@
 use Rattle.supervisor.specs.declared.table.Table.{Table}
-use Rattle.supervisor.proofs.RunningLaws.{quantum-taken, quantum-passed, quanta-zero, quanta-more, quanta-sound, rounds-begin, rounds-more, rounds-sound, rounds-done, start-sound}
+use Rattle.supervisor.proofs.RunningLaws.{quantum-taken, quantum-skipped, quanta-zero, quanta-more, quanta-sound, rounds-begin, rounds-more, rounds-sound, rounds-done, start-sound}
 use Rattle.supervisor.specs.System.{System, system}
 use Rattle.supervisor.specs.Running.{slotQuanta}
 use Rattle.supervisor.specs.PatchLaws.{slot-inside}
@@ -14,16 +14,16 @@ use Rattle.supervisor.proofs.running.run_rounds.Statement.{statement}
 use Rattle.supervisor.proofs.running.run_rounds.Tie as tie
 
 abbrev Inv-loop2 : tie.InvT-loop2
-Inv-loop2 memory₀ count next₀ left k₀ memory next k = (k ≤ 8) × (length memory ≡ length memory₀) × (system next memory ≡ slotQuanta k (system next₀ memory₀))
+Inv-loop2 memory₀ rounds next₀ left k₀ memory next k = (k ≤ 8) × (length memory ≡ length memory₀) × (system next memory ≡ slotQuanta k (system next₀ memory₀))
 
 abbrev μ-loop2 : tie.MeasureT-loop2
-μ-loop2 memory₀ count next₀ left k₀ memory next k = 8 - k
+μ-loop2 memory₀ rounds next₀ left k₀ memory next k = 8 - k
 
 abbrev Inv-loop : tie.InvT-loop
-Inv-loop memory₀ count next₀ left₀ memory next left = (left ≤ left₀) × (length memory ≡ length memory₀) × (system next memory ≡ times (left₀ - left) (slotQuanta 8) (system next₀ memory₀))
+Inv-loop memory₀ rounds next₀ left₀ memory next left = (left ≤ left₀) × (length memory ≡ length memory₀) × (system next memory ≡ times (left₀ - left) (slotQuanta 8) (system next₀ memory₀))
 
 abbrev μ-loop : tie.MeasureT-loop
-μ-loop memory₀ count next₀ left₀ memory next left = left
+μ-loop memory₀ rounds next₀ left₀ memory next left = left
 
 loop-holds : tie.Need-loop-holds Inv-loop2 μ-loop2 Inv-loop μ-loop
 loop-holds c = (omega arith, refl, rounds-begin _ _)
@@ -82,7 +82,7 @@ loop2-again c = let outer = c .before .before .before .before .before .loop in
       omega arith,
       ap length (w .1) ∙ inner .inv .1,
       quanta-more (inner .k) _ y _ (inner .inv .2)
-          (ap (λ (t : Table). system t (c .if1 .memory)) (w .2) ∙ ap (system _) (w .1) ∙ quantum-passed y i (inner .k) q (w .0 .left)),
+          (ap (λ (t : Table). system t (c .if1 .memory)) (w .2) ∙ ap (system _) (w .1) ∙ quantum-skipped y i (inner .k) q (w .0 .left)),
     ))
     (c .if1 .came)
 

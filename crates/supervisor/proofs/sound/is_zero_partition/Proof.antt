@@ -1,12 +1,12 @@
 -- `supervisor::sound::is_zero_partition`: in the shape of its definition.
 use mathlib.Core.Path.{refl}
-use Rattle.common.specs.Tests.{allAfter}
+use Rattle.common.specs.Tests.{andAll}
 use Rattle.supervisor.specs.Sound.{isZeroPartition}
 use Rattle.supervisor.proofs.sound.is_zero_partition.Statement.{statement}
 use Rattle.supervisor.proofs.sound.is_zero_partition.Tie as tie
 
 returns : tie.Need-returns
-unfolding isZeroPartition allAfter
+unfolding isZeroPartition andAll
 returns c = refl
 
 pub is-zero-partition-spec : {M : Type 1} → statement M

@@ -1,5 +1,5 @@
 -- `supervisor::sound::is_zero_state`: in the shape of its definition.
-use Rattle.common.specs.Tests.{allAfter}
+use Rattle.common.specs.Tests.{andAll}
 use Rattle.supervisor.specs.Sound.{isZeroState}
 use borrow.Author.Needs.{needs}
 use Rattle.supervisor.proofs.sound.is_zero_state.Statement.{statement}
@@ -18,7 +18,7 @@ all-zero-u16s-requires : tie.Need-all-zero-u16s-requires
 all-zero-u16s-requires c κs = search needs
 
 returns : tie.Need-returns
-unfolding isZeroState allAfter
+unfolding isZeroState andAll
 returns c = rw (c .before .before .before .before .before .before .before .all-zero-u16s .ensures, c .before .before .before .before .before .before .before .before .before .all-zero-bytes .ensures)
 
 pub is-zero-state-spec : {M : Type 1} → statement M

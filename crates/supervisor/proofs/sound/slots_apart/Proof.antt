@@ -4,7 +4,7 @@ use mathlib.Core.Bool.{Bool}
 use mathlib.Core.Path.{_≡_}
 use native.Mathlib.Omega.{arith}
 use Rattle.supervisor.specs.Table.{slotAt}
-use Rattle.supervisor.specs.Sound.{clearOfOthers}
+use Rattle.supervisor.specs.Sound.{isClearOfOthers}
 use Rattle.common.specs.Tests.{allBelow}
 use Rattle.supervisor.specs.declared.table.Table.{Table}
 use Rattle.supervisor.proofs.AllBelowLaws.{all-none, all-more, all-done}
@@ -13,7 +13,7 @@ use Rattle.supervisor.proofs.sound.slots_apart.Statement.{statement}
 use Rattle.supervisor.proofs.sound.slots_apart.Tie as tie
 
 abbrev test : Table → ℕ → Bool
-test table k = clearOfOthers table k (slotAt table k .partition)
+test table k = isClearOfOthers table k (slotAt table k .partition)
 
 abbrev Inv-loop : tie.InvT-loop
 Inv-loop table ok₀ k₀ ok k = (k ≤ 8) × (ok ≡ allBelow k (test table))
@@ -30,8 +30,8 @@ mul-s c = search needs
 element-copy-out-s : tie.Need-element-copy-out-s Inv-loop μ-loop
 element-copy-out-s c = search needs
 
-clear-of-others-requires : tie.Need-clear-of-others-requires Inv-loop μ-loop
-clear-of-others-requires c κs = search needs
+is-clear-of-others-requires : tie.Need-is-clear-of-others-requires Inv-loop μ-loop
+is-clear-of-others-requires c κs = search needs
 
 add-k : tie.Need-add-k Inv-loop μ-loop
 add-k c = omega arith
@@ -44,7 +44,7 @@ unfolding slotAt
 loop-again c =
     let at = c .before .before .before .before .before .args in
     let here = c .before .before .before .before .loop in
-    (omega arith, all-more (test (at .t1)) (here .k) (here .inv .1) (c .clear-of-others .ensures))
+    (omega arith, all-more (test (at .t1)) (here .k) (here .inv .1) (c .is-clear-of-others .ensures))
 
 returns : tie.Need-returns Inv-loop μ-loop
 returns c =
@@ -61,7 +61,7 @@ slots-apart-spec =
     loop-holds
     mul-s
     element-copy-out-s
-    clear-of-others-requires
+    is-clear-of-others-requires
     add-k
     loop-less
     loop-again

@@ -10,23 +10,23 @@ use borrow.Author.Needs.{needs}
 use Rattle.supervisor.proofs.unloading.unload.Statement.{statement}
 use Rattle.supervisor.proofs.unloading.unload.Tie as tie
 
-memory-loaded-refusal-requires : tie.Need-memory-loaded-refusal-requires
-memory-loaded-refusal-requires c κs = search needs
+system-loaded-slot-refusal-requires : tie.Need-system-loaded-slot-refusal-requires
+system-loaded-slot-refusal-requires c κs = search needs
 
 same-length : tie.Need-same-length
 same-length c = search needs
 
 returns : tie.Need-returns
 unfolding refusal changeConditions
-returns c = refused-outcome (calls.change (c .before .before .before .before .args .slot) calls.unload) _ (c .before .memory-loaded-refusal .ensures) (c .if1 .taken)
+returns c = refused-outcome (calls.change (c .before .before .before .before .args .slot) calls.unload) _ (c .before .system-loaded-slot-refusal .ensures) (c .if1 .taken)
 
 mul-s : tie.Need-mul-s
 mul-s c =
-    omega (arith, refusal-ready _ (c .before .before .before .before .args .slot) (c .before .memory-loaded-refusal .ensures) (c .if1 .left) .holds .slot)
+    omega (arith, refusal-ready _ (c .before .before .before .before .args .slot) (c .before .system-loaded-slot-refusal .ensures) (c .if1 .left) .holds .slot)
 
 element-copy-out-s : tie.Need-element-copy-out-s
 element-copy-out-s c =
-    refusal-ready _ (c .before .before .before .before .args .slot) (c .before .memory-loaded-refusal .ensures) (c .if1 .left) .holds .slot
+    refusal-ready _ (c .before .before .before .before .args .slot) (c .before .system-loaded-slot-refusal .ensures) (c .if1 .left) .holds .slot
 
 cast-fill : tie.Need-cast-fill
 cast-fill c = search needs
@@ -42,11 +42,11 @@ empty-requires c κs = search needs
 
 mul-empty : tie.Need-mul-empty
 mul-empty c =
-    omega (arith, refusal-ready _ (c .before .before .before .before .before .before .before .before .before .before .before .before .before .before .before .args .slot) (c .before .before .before .before .before .before .before .before .before .before .before .before .memory-loaded-refusal .ensures) (c .before .before .before .before .before .before .before .before .before .before .before .if1 .left) .holds .slot)
+    omega (arith, refusal-ready _ (c .before .before .before .before .before .before .before .before .before .before .before .before .before .before .before .args .slot) (c .before .before .before .before .before .before .before .before .before .before .before .before .system-loaded-slot-refusal .ensures) (c .before .before .before .before .before .before .before .before .before .before .before .if1 .left) .holds .slot)
 
 element-set-from-empty : tie.Need-element-set-from-empty
 element-set-from-empty c =
-    refusal-ready _ (c .before .before .before .before .before .before .before .before .before .before .before .before .before .before .before .args .slot) (c .before .before .before .before .before .before .before .before .before .before .before .before .memory-loaded-refusal .ensures) (c .before .before .before .before .before .before .before .before .before .before .before .if1 .left) .holds .slot
+    refusal-ready _ (c .before .before .before .before .before .before .before .before .before .before .before .before .before .before .before .args .slot) (c .before .before .before .before .before .before .before .before .before .before .before .before .system-loaded-slot-refusal .ensures) (c .before .before .before .before .before .before .before .before .before .before .before .if1 .left) .holds .slot
 
 same-length-2 : tie.Need-same-length-2
 same-length-2 c = search needs
@@ -54,13 +54,13 @@ same-length-2 c = search needs
 returns-2 : tie.Need-returns-2
 unfolding patch-definitions refusal changeConditions unloadPatch
 returns-2 c =
-    accepted-outcome (calls.change (c .before .before .before .before .before .before .before .before .before .before .before .before .before .before .before .args .slot) calls.unload) _ _ _ (c .before .before .before .before .before .before .before .before .before .before .before .before .memory-loaded-refusal .ensures) (c .before .before .before .before .before .before .before .before .before .before .before .if1 .left) (rw (c .empty .ensures, c .before .before .before .fill .ensures, c .before .before .before .before .size .ensures))
+    accepted-outcome (calls.change (c .before .before .before .before .before .before .before .before .before .before .before .before .before .before .before .args .slot) calls.unload) _ _ _ (c .before .before .before .before .before .before .before .before .before .before .before .before .system-loaded-slot-refusal .ensures) (c .before .before .before .before .before .before .before .before .before .before .before .if1 .left) (rw (c .empty .ensures, c .before .before .before .fill .ensures, c .before .before .before .before .size .ensures))
 
 pub unload-spec : {M : Type 1} → statement M
 unload-spec =
     tie.close
     (tie.spec
-    memory-loaded-refusal-requires
+    system-loaded-slot-refusal-requires
     same-length
     returns
     mul-s

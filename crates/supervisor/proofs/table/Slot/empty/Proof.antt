@@ -10,12 +10,12 @@ empty-requires c κs = search needs
 fresh-requires : tie.Need-fresh-requires
 fresh-requires c κs = search needs
 
-resting-requires : tie.Need-resting-requires
-resting-requires c κs = search needs
+empty-requires-2 : tie.Need-empty-requires-2
+empty-requires-2 c κs = search needs
 
 returns : tie.Need-returns
 unfolding emptySlot
-returns c = rw (c .before .before .empty .ensures, c .resting .ensures, c .before .fresh .ensures)
+returns c = rw (c .before .before .empty .ensures, c .empty2 .ensures, c .before .fresh .ensures)
 
 pub empty-spec : {M : Type 1} → statement M
-empty-spec = tie.close (tie.spec empty-requires fresh-requires resting-requires returns)
+empty-spec = tie.close (tie.spec empty-requires fresh-requires empty-requires-2 returns)

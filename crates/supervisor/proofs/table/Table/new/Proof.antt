@@ -3,16 +3,16 @@ use mathlib.Core.Bool.{true, false}
 use mathlib.Core.Path.{_≡_, sym, _∙_}
 use native.Mathlib.Omega.{arith}
 use borrow.Author.Tests.{not-true, not-false}
-use Rattle.common.specs.Ranges.{isWithin}
+use Rattle.common.specs.Ranges.{isOneTo}
 use Rattle.supervisor.specs.Table.{newRefusal, newTable}
-use Rattle.common.specs.TestLaws.{within-fact}
-use Rattle.common.specs.RefusalDefinitions.{condition-definitions}
+use Rattle.common.specs.TestLaws.{one-to-fact}
+use Rattle.common.specs.ConditionDefinitions.{condition-definitions}
 use borrow.Author.Needs.{needs}
 use Rattle.supervisor.proofs.table.Table.new.Statement.{statement}
 use Rattle.supervisor.proofs.table.Table.new.Tie as tie
 
-is-within-requires : tie.Need-is-within-requires
-is-within-requires c κs = search needs
+is-one-to-requires : tie.Need-is-one-to-requires
+is-one-to-requires c κs = search needs
 
 empty-requires : tie.Need-empty-requires
 empty-requires c κs = search needs
@@ -20,14 +20,14 @@ empty-requires c κs = search needs
 returns : tie.Need-returns
 unfolding condition-definitions newRefusal newTable
 returns c =
-    let e : isWithin (c .before .before .before .args .length) 65536 ≡ false = sym (c .before .before .is-within .ensures) ∙ not-true (c .before .before .is-within .result) (c .before .if1 .taken) in
+    let e : isOneTo (c .before .before .before .args .length) 65536 ≡ false = sym (c .before .before .is-one-to .ensures) ∙ not-true (c .before .before .is-one-to .result) (c .before .if1 .taken) in
     (rw e, rw (c .empty .ensures, e))
 
 cast-empty : tie.Need-cast-empty
 cast-empty c =
     let start = c .before .before .args in
-    let e : isWithin (start .length) 65536 ≡ true = sym (c .before .is-within .ensures) ∙ not-false (c .before .is-within .result) (c .if1 .left) in
-    omega (arith, within-fact (start .length) 65536 e .fits)
+    let e : isOneTo (start .length) 65536 ≡ true = sym (c .before .is-one-to .ensures) ∙ not-false (c .before .is-one-to .result) (c .if1 .left) in
+    omega (arith, one-to-fact (start .length) 65536 e .fits)
 
 empty-requires-2 : tie.Need-empty-requires-2
 empty-requires-2 c κs = search needs
@@ -35,8 +35,8 @@ empty-requires-2 c κs = search needs
 returns-2 : tie.Need-returns-2
 unfolding condition-definitions newRefusal newTable
 returns-2 c =
-    let e : isWithin (c .before .before .before .args .length) 65536 ≡ true = sym (c .before .before .is-within .ensures) ∙ not-false (c .before .before .is-within .result) (c .before .if1 .left) in
+    let e : isOneTo (c .before .before .before .args .length) 65536 ≡ true = sym (c .before .before .is-one-to .ensures) ∙ not-false (c .before .before .is-one-to .result) (c .before .if1 .left) in
     (rw e, rw (c .empty2 .ensures, e))
 
 pub new-spec : {M : Type 1} → statement M
-new-spec = tie.close (tie.spec is-within-requires empty-requires returns cast-empty empty-requires-2 returns-2)
+new-spec = tie.close (tie.spec is-one-to-requires empty-requires returns cast-empty empty-requires-2 returns-2)
