@@ -95,8 +95,8 @@ class Functions(Case):
 
     def test_another_definition_is_cited(self):
         rows = self.rows_of("ensures { λ r. ⌜ r ≡ afterQuantum ⌝ }")
-        self.assertEqual(rows, ["crates/a/src/lib.rt:2: fn run_quantum is not held to runQuantum of "
-                                "crates/a/specs/Lib.antt:2"])
+        self.assertEqual(rows, ["crates/a/src/lib.rt:2: fn run_quantum is not held to runQuantum "
+                                "of crates/a/specs/Lib.antt:2"])
 
     def test_the_definition_with_of(self):
         self.assertEqual(len(self.rows_of("", "runQuantumOf")), 1)
@@ -183,6 +183,12 @@ class Pages(Case):
     def test_names_in_a_file_without_its_ending(self):
         self.assertEqual(self.rows_of("`sum-of` in `a/specs/Alu`"), [])
         self.assertEqual(len(self.rows_of("`add` and `sum-of` in `a/specs/Alu`")), 1)
+
+    def test_a_path_that_is_gone(self):
+        there = "In `a/src/alu.rt`, `specs/Alu`, `a/src/` and `target/a/b`."
+        self.assertEqual(self.rows_of(there), [])
+        rows = self.rows_of("One line.\nIt is in `a/src/sum.rt`.")
+        self.assertIn("docs/REVIEW.md:2: a/src/sum.rt is no file of the project", rows)
 
 
 class Project(Case):

@@ -28,7 +28,7 @@ pub record StepResult : Type 0 where
   pub status : ℕ
   pub effect : Effect
 
--- a result of its parts
+-- a result made of its parts
 abbrev pub stepResult : Cpu → ℕ → Effect → StepResult
 stepResult cpu n x = record { cpu = cpu; status = n; effect = x }
 

@@ -52,7 +52,7 @@ pub record HostBuffers : Type 0 where
   pub table : List ℕ
   pub memory : List ℕ
 
--- such buffers of their parts
+-- both buffers as one value
 abbrev pub hostBuffers : List ℕ → List ℕ → HostBuffers
 hostBuffers table memory = record { table = table; memory = memory }
 

@@ -18,7 +18,7 @@ use Rattle.pattern.specs.declared.reader.ReadResult.the-variants.{Accepted, Ref
 use Rattle.pattern.specs.declared.parameters.Parameters.{Parameters}
 use Rattle.pattern.specs.declared.writer.WriteResult.the-variants.{Written}
 use Rattle.slices.specs.Slices.{partOf}
-use Rattle.host.specs.PatternFiles.{stretchOf, ifRead, codeStretch, inputStretch}
+use Rattle.host.specs.PatternFiles.{stretchOf, codeStretch, inputStretch}
 
 -- the stretch of a file that a number names
 abbrev pub stretchIn : List ℕ → ℕ → List ℕ
@@ -47,29 +47,29 @@ module _ (file : List ℕ) (v : Parameters) (accepted : readOf file ≡ Accepted
   -- what an accepted file's stretches are
   pub code-accepted : codeStretch file ≡ stretchOf (codeOffset file) (length (codeBodyOf file))
   unfolding codeStretch
-  code-accepted = ap (λ (a : ReadResult). ifRead a (stretchOf (codeOffset file) (length (codeBodyOf file)))) accepted
+  code-accepted = ap (λ (a : ReadResult). ifAccepted a 0 (stretchOf (codeOffset file) (length (codeBodyOf file)))) accepted
 
   pub input-accepted : inputStretch file ≡ stretchOf (inputOffset file) (length (inputBodyOf file))
   unfolding inputStretch
-  input-accepted = ap (λ (a : ReadResult). ifRead a (stretchOf (inputOffset file) (length (inputBodyOf file)))) accepted
+  input-accepted = ap (λ (a : ReadResult). ifAccepted a 0 (stretchOf (inputOffset file) (length (inputBodyOf file)))) accepted
 
 -- a refused file's are empty
 module _ (file : List ℕ) (n : ℕ) (refused : readOf file ≡ Refused n) where
   pub code-refused : codeStretch file ≡ 0
   unfolding codeStretch
-  code-refused = ap (λ (a : ReadResult). ifRead a (stretchOf (codeOffset file) (length (codeBodyOf file)))) refused
+  code-refused = ap (λ (a : ReadResult). ifAccepted a 0 (stretchOf (codeOffset file) (length (codeBodyOf file)))) refused
 
   pub input-refused : inputStretch file ≡ 0
   unfolding inputStretch
-  input-refused = ap (λ (a : ReadResult). ifRead a (stretchOf (inputOffset file) (length (inputBodyOf file)))) refused
+  input-refused = ap (λ (a : ReadResult). ifAccepted a 0 (stretchOf (inputOffset file) (length (inputBodyOf file)))) refused
 
   no-code : codeBodyOf file ≡ []
   unfolding codeBodyOf
-  no-code = ap (λ (a : ReadResult). ifAccepted a (bodyOf (fromCode file))) refused
+  no-code = ap (λ (a : ReadResult). ifAccepted a [] (bodyOf (fromCode file))) refused
 
   no-input : inputBodyOf file ≡ []
   unfolding inputBodyOf
-  no-input = ap (λ (a : ReadResult). ifAccepted a (bodyOf (fromInput file))) refused
+  no-input = ap (λ (a : ReadResult). ifAccepted a [] (bodyOf (fromInput file))) refused
 
 -- whatever the file, the stretch that a host is answered is the body
 pub code-stretch : (file : List ℕ) → stretchIn file (codeStretch file) ≡ codeBodyOf file

@@ -5,7 +5,7 @@ use Prim.Native.Nat.{ℕ, _+_, _*_}
 use lib.Dec.{eqb, ltb}
 use lib.ListN.{length, drop}
 use Rattle.common.specs.Choice.{if_then_else_}
-use Rattle.pattern.specs.Reader.{readOf, codeBodyOf, inputBodyOf, codeOffset, inputOffset}
+use Rattle.pattern.specs.Reader.{readOf, ifAccepted, codeBodyOf, inputBodyOf, codeOffset, inputOffset}
 use Rattle.pattern.specs.Parameters.{formOf, parametersLength, parametersBytes, parametersFromBytes}
 use Rattle.pattern.specs.Writer.{writeOf, writtenBuffer}
 use Rattle.pattern.specs.declared.reader.ReadResult.{ReadResult}
@@ -28,17 +28,12 @@ hostRead (Accepted p) buffer =
 abbrev pub stretchOf : ℕ → ℕ → ℕ
 stretchOf offset n = offset * 65536 + n
 
--- an empty stretch if the file is refused
-abbrev pub ifRead : ReadResult → ℕ → ℕ
-ifRead (Accepted p) stretch = stretch
-ifRead (Refused n) stretch = 0
-
--- where the bodies of `PC` and `PI` lie
+-- where the bodies of `PC` and `PI` lie; 0, an empty stretch, if the file is refused
 unfoldable pub codeStretch : List ℕ → ℕ
-codeStretch file = ifRead (readOf file) (stretchOf (codeOffset file) (length (codeBodyOf file)))
+codeStretch file = ifAccepted (readOf file) 0 (stretchOf (codeOffset file) (length (codeBodyOf file)))
 
 unfoldable pub inputStretch : List ℕ → ℕ
-inputStretch file = ifRead (readOf file) (stretchOf (inputOffset file) (length (inputBodyOf file)))
+inputStretch file = ifAccepted (readOf file) 0 (stretchOf (inputOffset file) (length (inputBodyOf file)))
 
 -- ---- writing
 

@@ -19,12 +19,12 @@ use Rattle.supervisor.specs.Table.{slotAt, withSlot}
 use Rattle.supervisor.specs.Sound.{slotSound, tableSound}
 use Rattle.supervisor.specs.declared.table.Slot.{Slot}
 use Rattle.supervisor.specs.declared.table.Table.{Table}
-use Rattle.lend.specs.Lent.{LentOutcome, drainSlotRefusal, drainSlotOf}
+use Rattle.lend.specs.Lent.{DrainSlotOutcome, drainSlotRefusal, drainSlotOf}
 use Rattle.supervisor.specs.CallDefinitions.{refusal-definitions, drain-definitions}
 
 -- an outcome over slot k of a table, its slot put back, is what a call of `drain` at k answers and leaves: the three equations of its
 -- contract
-pub record AsDrained (t : Table) (memory : List ℕ) (k : ℕ) (buffer : List ℕ) (o : LentOutcome) : Type 0 where
+pub record AsDrained (t : Table) (memory : List ℕ) (k : ℕ) (buffer : List ℕ) (o : DrainSlotOutcome) : Type 0 where
   pub table : outcome (o .answer .drained .refusal) (withSlot t k (o .answer .slot)) memory ≡ outcomeOf (change k (drain (length buffer))) (system t memory)
   pub count : o .answer .drained .count ≡ drainedCount (system t memory) k (length buffer)
   pub bytes : o .buffer ≡ drainedBuffer (system t memory) k buffer

@@ -21,7 +21,7 @@ use Rattle.supervisor.specs.Sound.{slotSound, areApart, isClearOfOthers, tableS
 use Rattle.supervisor.specs.declared.table.Partition.{Partition}
 use Rattle.supervisor.specs.declared.table.Slot.{Slot}
 use Rattle.supervisor.specs.declared.table.Table.{Table}
-use Rattle.lend.specs.Lent.{lentOutcome, drainSlotRefusal, drainSlotOf}
+use Rattle.lend.specs.Lent.{drainLentOutcome, drainSlotRefusal, drainSlotOf}
 use Rattle.supervisor.specs.CallDefinitions.{refusal-definitions}
 use Rattle.common.specs.ConditionDefinitions.{condition-definitions}
 use Rattle.supervisor.specs.CallDefinitions.{drain-definitions}
@@ -50,11 +50,11 @@ unfolding refusal-definitions drainSlotRefusal withSlot slotAt
 alone-refusal s memory room = rw (alone-sound (length memory) s, eq-eqb (length memory) _ refl)
 
 -- a memory whose length is out of range refuses the slot by 1
-pub not-new : (s : Slot) (memory buffer : List ℕ) → newRefusal (length memory) ≢ 0 → lentOutcome (record { refusal = 1; count = 0 }) s buffer ≡ drainSlotOf s memory buffer
+pub not-new : (s : Slot) (memory buffer : List ℕ) → newRefusal (length memory) ≢ 0 → drainLentOutcome (record { refusal = 1; count = 0 }) s buffer ≡ drainSlotOf s memory buffer
 unfolding condition-definitions newRefusal drainSlotOf drainSlotRefusal
 not-new s memory buffer h = alone-by-test (isOneTo (length memory) 65536) refl
   where
-    alone-by-test : (b : Bool) → isOneTo (length memory) 65536 ≡ b → lentOutcome (record { refusal = 1; count = 0 }) s buffer ≡ drainSlotOf s memory buffer
+    alone-by-test : (b : Bool) → isOneTo (length memory) 65536 ≡ b → drainLentOutcome (record { refusal = 1; count = 0 }) s buffer ≡ drainSlotOf s memory buffer
     alone-by-test true e = absurd (h (rw e))
     alone-by-test false e = rw e
 
@@ -72,23 +72,23 @@ module _ (s : Slot) (memory buffer : List ℕ) where
 
   alone-by-test :
       (t : ℕ) (b : Bool) → eqb t 0 ≡ b
-      → lentOutcome
+      → drainLentOutcome
       (record { refusal = t; count = if b then s .state .written else 0 })
       (slotAt ((if b then patched aloneSystem 0 (drainPatch (slotAt (aloneSystem .table) 0)) else aloneSystem) .table) 0)
       (if b then writtenBytes (slotAt (aloneSystem .table) 0) (aloneSystem .memory) ++ drop (s .state .written) buffer else buffer)
       ≡ (if b
       then
-      lentOutcome
+      drainLentOutcome
       (record { refusal = 0; count = s .state .written })
       (slotWithState s (drainedState (s .state)))
       (writtenBytes s memory ++ drop (s .state .written) buffer)
-      else lentOutcome (record { refusal = t; count = 0 }) s buffer)
+      else drainLentOutcome (record { refusal = t; count = 0 }) s buffer)
   unfolding patched drainPatch withSlot slotAt if_then_else_
   alone-by-test t true e = rw (eqb-true t 0 e)
   alone-by-test t false e = refl
 
   pub alone-drained :
-      lentOutcome
+      drainLentOutcome
       (record { refusal = aloneOutcome .refusal; count = drainedCount aloneSystem 0 (length buffer) })
       (slotAt (aloneOutcome .after .table) 0)
       (drainedBuffer aloneSystem 0 buffer)
@@ -103,6 +103,6 @@ pub by-draining :
     → outcome r t' memory ≡ outcomeOf (change 0 (drain (length buffer))) (system (withSlot t 0 s) memory)
     → n ≡ drainedCount (system (withSlot t 0 s) memory) 0 (length buffer)
     → b ≡ drainedBuffer (system (withSlot t 0 s) memory) 0 buffer
-    → lentOutcome (record { refusal = r; count = n }) (slotAt t' 0) b ≡ drainSlotOf s memory buffer
+    → drainLentOutcome (record { refusal = r; count = n }) (slotAt t' 0) b ≡ drainSlotOf s memory buffer
 by-draining s memory buffer t e r n t' b h i j =
     rw (ap (λ (o : Outcome). o .refusal) h, ap (λ (o : Outcome). o .after .table) h, i, j, e) (alone-drained s memory buffer)

@@ -21,24 +21,24 @@ unfoldable pub drainSlotRefusal : Slot → ℕ → ℕ → ℕ
 drainSlotRefusal s size room = refusalBy ((not (isOneTo size 65536 && slotSound size s) gives 1 ∷ isEmpty s gives 5 ∷ []) ++ drainConditions s room)
 
 -- what it gives and leaves, as one value: the answer with the slot, and the buffer
-pub record LentOutcome : Type 0 where
+pub record DrainSlotOutcome : Type 0 where
   pub answer : SlotAnswer
   pub buffer : List ℕ
 
-abbrev pub slotOutcome : SlotAnswer → List ℕ → LentOutcome
-slotOutcome a buffer = record { answer = a; buffer = buffer }
+abbrev pub drainSlotOutcome : SlotAnswer → List ℕ → DrainSlotOutcome
+drainSlotOutcome a buffer = record { answer = a; buffer = buffer }
 
 -- the same where the slot stands behind a reference
-abbrev pub lentOutcome : LentAnswer → Slot → List ℕ → LentOutcome
-lentOutcome d s buffer = slotOutcome (record { drained = d; slot = s }) buffer
+abbrev pub drainLentOutcome : LentAnswer → Slot → List ℕ → DrainSlotOutcome
+drainLentOutcome d s buffer = drainSlotOutcome (record { drained = d; slot = s }) buffer
 
 -- a refusal leaves everything; else it does what draining does
-unfoldable pub drainSlotOf : Slot → List ℕ → List ℕ → LentOutcome
+unfoldable pub drainSlotOf : Slot → List ℕ → List ℕ → DrainSlotOutcome
 drainSlotOf s memory buffer =
     if eqb (drainSlotRefusal s (length memory) (length buffer)) 0
     then
-    lentOutcome
+    drainLentOutcome
     (record { refusal = 0; count = s .state .written })
     (slotWithState s (drainedState (s .state)))
     (writtenBytes s memory ++ drop (s .state .written) buffer)
-    else lentOutcome (record { refusal = drainSlotRefusal s (length memory) (length buffer); count = 0 }) s buffer
+    else drainLentOutcome (record { refusal = drainSlotRefusal s (length memory) (length buffer); count = 0 }) s buffer

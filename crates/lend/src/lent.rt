@@ -1,6 +1,6 @@
 // Draining over one slot that is lent by reference (document 01, "Floor and bays": collecting over one station's record).
 ghost use mathlib.Core.Path.{_≡_};
-ghost use Rattle.lend.specs.Lent.{slotOutcome, drainSlotOf, lentOutcome};
+ghost use Rattle.lend.specs.Lent.{drainSlotOutcome, drainSlotOf, drainLentOutcome};
 use supervisor::Slot;
 use supervisor::Table;
 
@@ -25,7 +25,7 @@ fn refused_answer(refusal: u8, slot: Slot) -> SlotAnswer
 
 // Drains the slot as the only one of a table: by value, and all of the work.
 pub fn drain_slot(slot: Slot, memory: &[u8], buffer: &mut [u8]) -> SlotAnswer
-    ensures { λ r. ⌜ slotOutcome r (now (buffer .exit)) ≡ drainSlotOf slot (now (memory .entry)) (now (buffer .entry)) ⌝ }
+    ensures { λ r. ⌜ drainSlotOutcome r (now (buffer .exit)) ≡ drainSlotOf slot (now (memory .entry)) (now (buffer .entry)) ⌝ }
 {
     let fresh = Table::new(memory.len());
     if fresh.refusal != 0 {
@@ -45,7 +45,7 @@ pub fn drain_slot(slot: Slot, memory: &[u8], buffer: &mut [u8]) -> SlotAnswer
 
 // The slot is taken out, drained, and put back.
 pub fn drain_lent(slot: &mut Slot, memory: &[u8], buffer: &mut [u8]) -> LentAnswer
-    ensures { λ r. ⌜ lentOutcome r (now (slot .exit)) (now (buffer .exit)) ≡ drainSlotOf (now (slot .entry)) (now (memory .entry)) (now (buffer .entry)) ⌝ }
+    ensures { λ r. ⌜ drainLentOutcome r (now (slot .exit)) (now (buffer .exit)) ≡ drainSlotOf (now (slot .entry)) (now (memory .entry)) (now (buffer .entry)) ⌝ }
 {
     let s = *slot;
     let d = drain_slot(s, memory, buffer);

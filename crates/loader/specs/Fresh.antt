@@ -1,6 +1,6 @@
 -- Definitions that must be believed: the fresh machine of a pattern file, and the bytes of its partition
 -- (document 01, "Floor and bays": what mounting writes).
-use mathlib.Core.List.{List, _++_}
+use mathlib.Core.List.{List, [], _++_}
 use Prim.Native.Nat.{ℕ}
 use lib.ListN.{length, replicate}
 use Rattle.cpu.specs.Machine.{Machine, machineOf}
@@ -18,7 +18,7 @@ freshState p n = withFilled n (withStatus 1 (emptyState (freshCpu (p .start))))
 -- the whole partition: the code and the first input at the fronts of their parts, unused bytes zero; of a refused file nothing
 unfoldable pub freshBytes : List ℕ → List ℕ
 freshBytes file =
-    ifAccepted (readOf file)
+    ifAccepted (readOf file) []
     (imageOf file ++ padded (parametersOf file .layout .input) (inputBodyOf file) ++ replicate (parametersOf file .layout .output) 0)
 
 -- the state of an accepted file, its first input unread

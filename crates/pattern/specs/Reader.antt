@@ -101,17 +101,17 @@ abbrev pub readRefusal : ReadResult → ℕ
 readRefusal (Accepted p) = 0
 readRefusal (Refused n) = n
 
--- that body if the file is accepted, else an empty one
-abbrev pub ifAccepted : ReadResult → List ℕ → List ℕ
-ifAccepted (Accepted p) body = body
-ifAccepted (Refused n) body = []
+-- what follows if the file is accepted, and what if it is refused
+abbrev pub ifAccepted : {A : Type 0} → ReadResult → A → A → A
+ifAccepted (Accepted p) stop go = go
+ifAccepted (Refused n) stop go = stop
 
--- the bodies of `PC` and of `PI`
+-- the bodies of `PC` and of `PI`, empty if the file is refused
 unfoldable pub codeBodyOf : List ℕ → List ℕ
-codeBodyOf s = ifAccepted (readOf s) (bodyOf (fromCode s))
+codeBodyOf s = ifAccepted (readOf s) [] (bodyOf (fromCode s))
 
 unfoldable pub inputBodyOf : List ℕ → List ℕ
-inputBodyOf s = ifAccepted (readOf s) (bodyOf (fromInput s))
+inputBodyOf s = ifAccepted (readOf s) [] (bodyOf (fromInput s))
 
 -- where these bodies start in the file: each record stands behind the ones before it
 abbrev pub codeOffset : List ℕ → ℕ

@@ -154,11 +154,11 @@ module _ (s : List ℕ) (v : Parameters) (accepted : readOf s ≡ Accepted v) wh
 
   pub code-body-is : codeBodyOf s ≡ bodyOf (fromCode s)
   unfolding codeBodyOf
-  code-body-is = ap (λ (a : ReadResult). ifAccepted a (bodyOf (fromCode s))) accepted
+  code-body-is = ap (λ (a : ReadResult). ifAccepted a [] (bodyOf (fromCode s))) accepted
 
   pub input-body-is : inputBodyOf s ≡ bodyOf (fromInput s)
   unfolding inputBodyOf
-  input-body-is = ap (λ (a : ReadResult). ifAccepted a (bodyOf (fromInput s))) accepted
+  input-body-is = ap (λ (a : ReadResult). ifAccepted a [] (bodyOf (fromInput s))) accepted
 
   pub code-length : length (codeBodyOf s) ≡ bodyLength (fromCode s)
   code-length = ap length code-body-is ∙ frame-body-length 0x43 (fromCode s) (accepted-file s v accepted .code .frame)

@@ -17,6 +17,7 @@ use common::Address;
 use common::Layout;
 use slices::byte;
 use slices::front;
+ghost use mathlib.Core.List.{[]};
 ghost use mathlib.Core.Path.{_≡_};
 ghost use Rattle.common.specs.Refusals.{unless};
 ghost use Rattle.pattern.specs.Frame.{bodyOf};
@@ -156,7 +157,7 @@ pub fn read(file: &[u8]) -> ReadResult
 
 // The body of the record at the front of `from`, which is a part of `file`; empty if the file is refused.
 fn accepted_body<'a>(file: &[u8], from: &'a [u8]) -> &'a [u8]
-    ensures { λ r. ⌜ now r ≡ ifAccepted (readOf (now (file .entry))) (bodyOf (now (from .entry))) ⌝ }
+    ensures { λ r. ⌜ now r ≡ ifAccepted (readOf (now (file .entry))) [] (bodyOf (now (from .entry))) ⌝ }
 {
     let answer = read(file);
     let ReadResult::Accepted(_) = answer else {

@@ -67,7 +67,7 @@ pub record Isolation (x : System) (events : List Event) : Type 0 where
   -- its partition stays: base, layout and quantum
   pub partition :
       (k : ℕ) → k < 8 → isEmpty (slotOf x k) ≡ false → LeftAloneThroughout k events x → slotOf (afterEvents events x) k .partition ≡ slotOf x k .partition
-  -- a byte in no partition all through is as it was
+  -- a byte that is in no partition all through, and that no event writes from outside, is as it was
   pub byte : (i : ℕ) → InNoPartitionNorWrittenThroughout i events x → getD (afterEvents events x .memory) i 0 ≡ getD (x .memory) i 0
   -- every table handed back is sound
   pub tables : SoundThroughout events x

@@ -18,11 +18,11 @@ use Rattle.supervisor.specs.declared.table.Table.{Table}
 unfoldable pub partitionFor : Location → Parameters → Partition
 partitionFor location parameters = record { base = location; layout = parameters .layout; quantum = parameters .quantum }
 
--- the reader's number
+-- the reader's refusal
 unfoldable pub fileConditions : List ℕ → List Condition
 fileConditions file = not (eqb (readRefusal (readOf file)) 0) gives readRefusal (readOf file) ∷ []
 
--- the partition passes the memory's end, or meets another one
+-- the partition ends past the memory, or meets another one
 unfoldable pub locationConditions : Table → ℕ → Partition → List Condition
 locationConditions t k p = ltb (t .size) (partitionEnd p) gives 12 ∷ not (isClearOfOthers t k p) gives 13 ∷ []
 

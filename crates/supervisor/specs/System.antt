@@ -14,7 +14,7 @@ pub record System : Type 0 where
   pub table : Table
   pub memory : List ℕ
 
--- such a pair of its parts
+-- a system made of its two parts
 abbrev pub system : Table → List ℕ → System
 system t memory = record { table = t; memory = memory }
 

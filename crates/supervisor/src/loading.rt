@@ -28,7 +28,7 @@ fn partition_for(location: Location, parameters: Parameters) -> Partition
     }
 }
 
-// Whether a partition passes the memory's end or meets another.
+// The refusal of a partition that ends past the memory, or that meets another; 0 for none.
 fn location_refusal(table: Table, slot: usize, p: Partition) -> u8
     ensures { λ r. ⌜ r ≡ refusalBy (locationConditions table slot p) ⌝ }
 {

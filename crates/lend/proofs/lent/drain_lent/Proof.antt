@@ -42,7 +42,7 @@ use denote.Triple.Table.{entered, cited}
 use denote.Triple.Walked.{says, Stays, stay-ref, stay-dropped, gave-slice, walkOf, AllGo, goes-ref, goes-dropped, goes-gave-slice, Walks, ends-at, walked, walk-meets}
 use denote.Exit.{yes}
 -- from here on the product's own: definitions, the three structs, the core, and the function itself
-use Rattle.lend.specs.Lent.{slotOutcome, drainSlotOf}
+use Rattle.lend.specs.Lent.{drainSlotOutcome, drainSlotOf}
 use Rattle.supervisor.specs.declared.table.Slot.{Slot}
 use Rattle.lend.specs.declared.lent.SlotAnswer.{SlotAnswer}
 use Rattle.lend.specs.declared.lent.LentAnswer.{LentAnswer}
@@ -116,7 +116,7 @@ module _ {M : Type 1} (𝓤 : URA M) (H : Heap 𝓤) (A : Atoms 𝓤) (W : Given
   Post = walkOf 𝓤 H A f.ended stayed (f.clauses 𝓤 H A at-mem run) .post (((κ, (κ₁, (κ₂, tt))), (q, (q₁, (q₂, tt))), tt, a, at), tt)
 
   -- the exit: the core's answer r and the buffer's last list zs meet the contract
-  exits : (r : SlotAnswer) (v : Val) (zs : List ℕ) → Is D.the-row r (v ∷ []) → slotOutcome r zs ≡ drainSlotOf h (m .now) (x .now) → length zs ≡ length (x .now)
+  exits : (r : SlotAnswer) (v : Val) (zs : List ℕ) → Is D.the-row r (v ∷ []) → drainSlotOutcome r zs ≡ drainSlotOf h (m .now) (x .now) → length zs ≡ length (x .now)
       → ent 𝓤 (⋆ 𝓤 H A (‵ (fobs γ (S.the-row .coded .code (r .slot))) ∷ ‵ (fbor κ (Body (mem S.the-row) b o γ)) ∷ ‵ (flft κ q) ∷ Tokens ∷ ‵ (finally u8 (x .name) zs) ∷ [])) (Post (answer-val r))
   exits r v zs is e l =
       qed W (‵ (fobs γ (S.the-row .coded .code (r .slot))) ∷ ‵ (fbor κ (Body (mem S.the-row) b o γ)) ∷ ‵ (flft κ q) ∷ Tokens ∷ ‵ (finally u8 (x .name) zs) ∷ []) ∵
@@ -158,8 +158,8 @@ module _ {M : Type 1} (𝓤 : URA M) (H : Heap 𝓤) (A : Atoms 𝓤) (W : Given
         calls-at ! fm (Core 𝓤 H A at-mem run) known to-core (and-then ! (load ! (from ! (stop !)) (look ! 11 refl)) (and-then ! (load ! (from ! (stop !)) (look ! 15 refl)) (and-then ! (load ! (from ! (stop !)) (look ! 5 refl)) (no-more !)))) (λ v.
         use1 W (later (some (λ (r : SlotAnswer). (Tokens ⊛ ‵ (D.the-row .own r (v ∷ []))) ⊛ raw (ensured 𝓤 H A core.ended (core.clauses 𝓤 H A at-mem run) (κ₁, (κ₂, tt)) (h, (m, (x, tt))) tt r)))) (id⊢ 𝓤 _) $ await ! tt $ pick ! (λ r.
         -- what the core ensures, at some last list of the buffer
-        split ! $ move ! (1 ∷ []) $ use1 W (some (λ (zs : Unit {0} × (Unit {0} × (List ℕ × Unit {0}))). ‵ (lasts core.ended (κ₁, (κ₂, tt)) (h, (m, (x, tt))) zs) ⊛ raw (fact 𝓤 (slotOutcome r (zs .1 .1 .0) ≡ drainSlotOf h (m .now) (x .now))))) (id⊢ 𝓤 _) $ pick ! (λ zs.
-        split ! $ move ! (1 ∷ []) $ heard ! (slotOutcome r (zs .1 .1 .0) ≡ drainSlotOf h (m .now) (x .now)) (λ e. fsplit ! $ drop ! $ fsplit ! $ drop ! $ fsplit ! $ fsplit ! $ move ! (1 ∷ []) $ feqL ! (λ l.
+        split ! $ move ! (1 ∷ []) $ use1 W (some (λ (zs : Unit {0} × (Unit {0} × (List ℕ × Unit {0}))). ‵ (lasts core.ended (κ₁, (κ₂, tt)) (h, (m, (x, tt))) zs) ⊛ raw (fact 𝓤 (drainSlotOutcome r (zs .1 .1 .0) ≡ drainSlotOf h (m .now) (x .now))))) (id⊢ 𝓤 _) $ pick ! (λ zs.
+        split ! $ move ! (1 ∷ []) $ heard ! (drainSlotOutcome r (zs .1 .1 .0) ≡ drainSlotOf h (m .now) (x .now)) (λ e. fsplit ! $ drop ! $ fsplit ! $ drop ! $ fsplit ! $ fsplit ! $ move ! (1 ∷ []) $ feqL ! (λ l.
         move ! (2 ∷ []) $ split ! $ move ! (1 ∷ []) $ peeks ! D.the-row (Is D.the-row) (shows 𝓤 H A D.the-row) r (v ∷ []) (λ is.
         -- [0 what the answer owns; 1 the slices' tokens; 2 the buffer's last list; 3 true; 4 the slot's cell; 5 the open borrow; 6 obs; 7 auth; 8 _7; 10 _6; 12 _5; 14 _4; 16 _3; 18 _2; 20 _1; 22 room for _0]
         -- the answer lands in _5, and is written as its spelled value

@@ -1,5 +1,5 @@
 use Rattle.lend.specs.AloneLaws.{not-new, new-table, by-draining}
-use Rattle.lend.specs.Lent.{slotOutcome}
+use Rattle.lend.specs.Lent.{drainSlotOutcome}
 use Rattle.lend.specs.declared.lent.SlotAnswer.{SlotAnswer}
 use Rattle.supervisor.specs.Table.{slotAt, withSlot}
 use mathlib.Core.Path.{_∙_, ap, sym}
@@ -14,7 +14,7 @@ refused-answer-requires : tie.Need-refused-answer-requires
 refused-answer-requires c κs = search needs
 
 returns : tie.Need-returns
-returns c = ap (λ (r : SlotAnswer). slotOutcome r (c .before .before .before .before .before .before .args .buffer .now)) (c .refused-answer .ensures) ∙ not-new (c .before .before .before .before .before .before .args .slot) (c .before .before .before .before .before .before .args .memory .now) (c .before .before .before .before .before .before .args .buffer .now) (λ e. c .before .if1 .taken (c .before .before .before .new .ensures .0 ∙ e))
+returns c = ap (λ (r : SlotAnswer). drainSlotOutcome r (c .before .before .before .before .before .before .args .buffer .now)) (c .refused-answer .ensures) ∙ not-new (c .before .before .before .before .before .before .args .slot) (c .before .before .before .before .before .before .args .memory .now) (c .before .before .before .before .before .before .args .buffer .now) (λ e. c .before .if1 .taken (c .before .before .before .new .ensures .0 ∙ e))
 
 element-set-from-slot : tie.Need-element-set-from-slot
 element-set-from-slot c = search needs

@@ -41,7 +41,7 @@ use denote.Triple.Table.{entered, cited}
 use denote.Triple.Walked.{says, Stays, stay-dropped, gave-slice, walkOf, AllGo, goes-dropped, goes-gave-slice, Walks, ends-at, walked, walk-meets}
 use denote.Exit.{yes}
 use borrow.Table.OneValue.{part-in, part-out}
-use Rattle.lend.specs.Lent.{drainSlotOf, lentOutcome}
+use Rattle.lend.specs.Lent.{drainSlotOf, drainLentOutcome}
 use Rattle.supervisor.specs.declared.table.Slot.{Slot}
 use Rattle.lend.specs.declared.lent.SlotAnswer.{SlotAnswer}
 use Rattle.lend.specs.declared.lent.LentAnswer.{LentAnswer}
@@ -113,7 +113,7 @@ module _ {M : Type 1} (𝓤 : URA M) (H : Heap 𝓤) (A : Atoms 𝓤) (W : Given
   abbrev Post : Val → SProp 𝓤
   Post = walkOf 𝓤 H A f.ended stayed (f.clauses 𝓤 H A at-mem run) .post (((κ₁, (κ₂, tt)), (q₁, (q₂, tt)), tt, a, at), tt)
 
-  exits : (r : LentAnswer) (v : Val) (s : Slot) (w : Val) (zs : List ℕ) → Is L.the-row r (v ∷ []) → Is S.the-row s (w ∷ []) → lentOutcome r s zs ≡ drainSlotOf h (m .now) (x .now) → length zs ≡ length (x .now)
+  exits : (r : LentAnswer) (v : Val) (s : Slot) (w : Val) (zs : List ℕ) → Is L.the-row r (v ∷ []) → Is S.the-row s (w ∷ []) → drainLentOutcome r s zs ≡ drainSlotOf h (m .now) (x .now) → length zs ≡ length (x .now)
       → ent 𝓤 (⋆ 𝓤 H A (Tokens ∷ ‵ (finally u8 (x .name) zs) ∷ [])) (Post (answer-val r s))
   exits r v s w zs is sis e l =
       qed W (Tokens ∷ ‵ (finally u8 (x .name) zs) ∷ []) ∵
@@ -152,8 +152,8 @@ module _ {M : Type 1} (𝓤 : URA M) (H : Heap 𝓤) (A : Atoms 𝓤) (W : Given
         calls-at ! fm (Lends 𝓤 H A at-mem run) known (to-lends l₄ ν δ) (and-then ! (load ! (from ! (stop !)) (look ! 8 refl)) (and-then ! (load ! (from ! (stop !)) (look ! 15 refl)) (and-then ! (load ! (from ! (stop !)) (look ! 4 refl)) (no-more !)))) (λ v.
         use1 W (later (some (λ (r : LentAnswer). ((‵ (flft (ν ∷ []) fullShare) ⊛ Tokens) ⊛ ‵ (L.the-row .own r (v ∷ []))) ⊛ raw (ensured 𝓤 H A lends.ended (lends.clauses 𝓤 H A at-mem run) (ν ∷ [], (κ₁, (κ₂, tt))) (ref l₄ δ, (m, (x, tt))) tt r)))) (id⊢ 𝓤 _) $ await ! tt $ pick ! (λ r.
         -- what the callee ensures, at some last slot and some last list
-        split ! $ move ! (1 ∷ []) $ use1 W (some (λ (zs : Slot × (Unit {0} × (List ℕ × Unit {0}))). ‵ (lasts lends.ended (ν ∷ [], (κ₁, (κ₂, tt))) (ref l₄ δ, (m, (x, tt))) zs) ⊛ raw (fact 𝓤 (lentOutcome r (zs .0) (zs .1 .1 .0) ≡ drainSlotOf h (m .now) (x .now))))) (id⊢ 𝓤 _) $ pick ! (λ zs.
-        split ! $ move ! (1 ∷ []) $ heard ! (lentOutcome r (zs .0) (zs .1 .1 .0) ≡ drainSlotOf h (m .now) (x .now)) (λ e. fsplit ! $ move ! (1 ∷ []) $ fsplit ! $ drop ! $ fsplit ! $ fsplit ! $ move ! (1 ∷ []) $ feqL ! (λ l.
+        split ! $ move ! (1 ∷ []) $ use1 W (some (λ (zs : Slot × (Unit {0} × (List ℕ × Unit {0}))). ‵ (lasts lends.ended (ν ∷ [], (κ₁, (κ₂, tt))) (ref l₄ δ, (m, (x, tt))) zs) ⊛ raw (fact 𝓤 (drainLentOutcome r (zs .0) (zs .1 .1 .0) ≡ drainSlotOf h (m .now) (x .now))))) (id⊢ 𝓤 _) $ pick ! (λ zs.
+        split ! $ move ! (1 ∷ []) $ heard ! (drainLentOutcome r (zs .0) (zs .1 .1 .0) ≡ drainSlotOf h (m .now) (x .now)) (λ e. fsplit ! $ move ! (1 ∷ []) $ fsplit ! $ drop ! $ fsplit ! $ fsplit ! $ move ! (1 ∷ []) $ feqL ! (λ l.
         -- [the buffer's last list; true; the slot's last value; the tokens and the answer; the lender's part; _9; …]
         move ! (3 ∷ []) $ split ! $ move ! (1 ∷ []) $ peeks ! L.the-row (Is L.the-row) (shows 𝓤 H A L.the-row) r (v ∷ []) (λ is.
         land ! (from ! (stop !)) (init ! 14 refl (LL.lawful L.the-type L′.the-laws 𝓤 H A W .typed r _ is .0)) $ rewrite ! 14 (λ (u : Val). ‵ (fat fullShare L′.mir l₅ 0 u)) (ap only (LL.tells L.the-type L′.the-laws r _ is)) refl $
