@@ -1,6 +1,7 @@
 /* The bench program for hosts: runs a pattern file through the entry points of the proved archive. */
 #include "pattern_floor.h"
 #include "listing.h"
+#include "product_level.h"
 #include "speed.h"
 #include "vectors.h"
 #include <stdio.h>
@@ -42,6 +43,7 @@ static int print_listing_of(const char *path)
 
 int main(int argc, char **argv)
 {
+    ref_level = PRODUCT_LEVEL;
     if (argc == 1) return print_listing(stdin);
     if (argc == 3 && !strcmp(argv[1], "--vectors")) return vectors(argv[2]);
     if (argc == 3 && !strcmp(argv[1], "--speed")) return speed(argv[2]);

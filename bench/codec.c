@@ -72,7 +72,7 @@ static void get_slot(const uint8_t **p, ref_slot *s)
     s->written = get_u16(p);
 }
 
-/* The table is zeroed first, because the reference compares an empty slot with its padding. */
+/* The table is zeroed first: the reference has fields for later requests, which no bytes of a table hold. */
 void decode_table(const uint8_t *bytes, ref_table *table)
 {
     memset(table, 0, sizeof *table);

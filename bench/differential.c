@@ -5,6 +5,7 @@
  * Each list starts from its own seed, which is made of the last one's: one list alone can be run again by its seed. */
 #include "calls.h"
 #include "codec.h"
+#include "product_level.h"
 #include "random.h"
 #include "tables.h"
 #include <inttypes.h>
@@ -286,6 +287,7 @@ int main(int argc, char **argv)
     }
     run_length w = { strtoull(argv[1], NULL, 10), strtoull(argv[2], NULL, 10),
                      argc > 3 ? strtoull(argv[3], NULL, 10) : 0 };
+    ref_level = PRODUCT_LEVEL;
     catch_faults();
     return compare(argv[0], &w);
 }

@@ -1,6 +1,7 @@
 /* One machine on the reference and on the product: patterns, and random machines. README.md says what each command does. */
 #include "random_machines.h"
 #include "pattern.h"
+#include "product_level.h"
 #include <stdio.h>
 #include <stdlib.h>
 #include <string.h>
@@ -82,6 +83,7 @@ static int check(int count, char **paths)
 int main(int argc, char **argv)
 {
     const char *command = argc > 1 ? argv[1] : "";
+    ref_level = PRODUCT_LEVEL;
     if (!strcmp(command, "check")) return check(argc - 2, argv + 2);
     if (!strcmp(command, "random") && argc == 4)
         return random_machines(strtoull(argv[2], NULL, 10), strtoull(argv[3], NULL, 10));
