@@ -5,6 +5,8 @@ pub mod Ranges
 pub mod Refusals
 pub mod Repetition
 pub mod Layout
+pub mod Totals
+pub mod Ordering
 -- Names for lists of definitions.
 pub mod ConditionDefinitions
 -- Laws that the checker has shown.
@@ -12,3 +14,5 @@ pub mod TestLaws
 pub mod RefusalLaws
 pub mod RepetitionLaws
 pub mod LayoutLaws
+pub mod TotalLaws
+pub mod OrderingLaws

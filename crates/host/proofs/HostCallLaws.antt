@@ -13,13 +13,13 @@ use Rattle.common.specs.declared.places.Location.{Location}
 use Rattle.slices.specs.SliceLaws.{copied-front}
 use Rattle.slices.specs.Slices.{copied}
 use Rattle.supervisor.specs.ChangeLaws.{drain-accepted, load-far}
-use Rattle.supervisor.specs.Calls.{Call, change, load, drain, report, Outcome, outcome, outcomeOf, refusal, afterCall, drainedCount, drainedBuffer, queryRefusal, reportOf}
+use Rattle.supervisor.specs.Calls.{Call, change, load, drain, report, Outcome, outcome, outcomeOf, refusal, afterCall, drainedCount, drainedBuffer, queryRefusal, reportOf, backlogOutcome, backlogOf}
 use Rattle.supervisor.specs.ConditionLaws.{HoldsPattern}
 use Rattle.supervisor.specs.System.{System, system, slotOf}
 use Rattle.supervisor.specs.Table.{newRefusal, newTable}
 use Rattle.supervisor.specs.declared.reported.Report.{Report}
 use Rattle.supervisor.specs.declared.table.Table.{Table}
-use Rattle.host.specs.HostCalls.{answerOf, lentSystem, tableBytesAfter, bufferOutcome, hostNew, hostBuffers, hostOutcome, hostAfterCall, hostOutcomeOf, hostDrainedBuffer, reportBytes, reportLength, hostReportRefusal, hostReport}
+use Rattle.host.specs.HostCalls.{answerOf, lentSystem, tableBytesAfter, bufferOutcome, hostNew, hostBuffers, hostOutcome, hostAfterCall, hostOutcomeOf, hostDrainedBuffer, reportBytes, reportLength, hostReportRefusal, hostReport, bufferOutcomeOf, hostBacklog}
 use Rattle.host.specs.TableEncoding.{tableFromBytes, tableLength}
 use Rattle.common.specs.ConditionDefinitions.{condition-definitions}
 
@@ -137,6 +137,18 @@ module _ (table : List ℕ) (k : ℕ) (buffer : List ℕ) where
           ∙ ap (λ (x : Report). reportBytes x ++ drop reportLength buffer) report-is
           in
           rw (eq-eqb (length table) tableLength whole, n, le-ltb (length buffer) reportLength h, e, front)
+
+-- ---- a backlog
+
+pub backlog-other : (table buffer : List ℕ) (a : ℕ) → (length table ≡ tableLength → ⊥) → a ≡ answerOf 1 0 → bufferOutcome a buffer ≡ hostBacklog table buffer
+unfolding hostBacklog if_then_else_
+backlog-other table buffer a h e = rw (ne-eqb (length table) tableLength h, e)
+
+pub backlog-made : (table buffer : List ℕ) (a n size : ℕ) (b : List ℕ) (before : Table) → length table ≡ tableLength → before ≡ tableFromBytes table
+    → backlogOutcome n size b ≡ backlogOf before buffer → a ≡ answerOf n size → bufferOutcome a b ≡ hostBacklog table buffer
+unfolding hostBacklog if_then_else_
+backlog-made table buffer a n size b before whole decoded made answer =
+    rw (eq-eqb (length table) tableLength whole, answer) (ap bufferOutcomeOf (made ∙ ap (λ (t : Table). backlogOf t buffer) decoded))
 
 -- ---- a new table
 

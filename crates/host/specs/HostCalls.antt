@@ -7,7 +7,7 @@ use lib.Dec.{eqb, ltb}
 use lib.ListN.{length, drop}
 use Rattle.common.specs.Choice.{if_then_else_}
 use Rattle.common.specs.Refusals.{_gives_, refusalBy}
-use Rattle.supervisor.specs.Calls.{Call, report, refusal, afterCall, drainedBuffer, queryRefusal, reportOf}
+use Rattle.supervisor.specs.Calls.{Call, report, refusal, afterCall, drainedBuffer, queryRefusal, reportOf, BacklogOutcome, backlogOf}
 use Rattle.supervisor.specs.System.{System, system}
 use Rattle.supervisor.specs.Table.{newRefusal, newTable}
 use Rattle.supervisor.specs.declared.reported.Report.{Report}
@@ -112,3 +112,13 @@ hostReport table k buffer =
     bufferOutcome
     (answerOf (hostReportRefusal table k (length buffer)) 0)
     (if eqb (hostReportRefusal table k (length buffer)) 0 then reportBytes (reportOf (tableFromBytes table) k) ++ drop reportLength buffer else buffer)
+
+-- ---- a backlog
+
+-- the count is how many bytes of the buffer are filled
+abbrev pub bufferOutcomeOf : BacklogOutcome → BufferOutcome
+bufferOutcomeOf o = bufferOutcome (answerOf (o .refusal) (o .size)) (o .buffer)
+
+unfoldable pub hostBacklog : List ℕ → List ℕ → BufferOutcome
+hostBacklog table buffer =
+    if eqb (length table) tableLength then bufferOutcomeOf (backlogOf (tableFromBytes table) buffer) else bufferOutcome (answerOf 1 0) buffer

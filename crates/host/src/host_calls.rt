@@ -5,7 +5,7 @@ ghost use lib.ListN.{length};
 ghost use Rattle.supervisor.specs.Calls as calls;
 ghost use Rattle.supervisor.specs.Calls.{drainedCount};
 ghost use Rattle.host.specs.TableEncoding.{tableLength};
-ghost use Rattle.host.specs.HostCalls.{answerOf, bufferOutcome, tableBytesAfter, hostBuffers, hostOutcome, hostDrainedBuffer, hostNew, hostOutcomeOf, hostReport, lentSystem, reportBytes};
+ghost use Rattle.host.specs.HostCalls.{answerOf, bufferOutcome, tableBytesAfter, hostBuffers, hostOutcome, hostDrainedBuffer, hostNew, hostOutcomeOf, hostReport, hostBacklog, lentSystem, reportBytes};
 use crate::table_encoding::TABLE_LENGTH;
 use crate::table_encoding::decode_table;
 use crate::table_encoding::put_table;
@@ -185,4 +185,16 @@ pub extern "C" fn pf_report(table: &[u8], slot: usize, report: &mut [u8]) -> u32
     let bytes = encode_report(made);
     slices::copy(report, 0, &bytes);
     answer(0, 0)
+}
+
+// Which slot has how many bytes to drain, most first, and the total, to the buffer's front. The count is how many bytes that fills.
+#[no_mangle]
+pub extern "C" fn pf_backlog(table: &[u8], buffer: &mut [u8]) -> u32
+    ensures { λ r. ⌜ bufferOutcome r (now (buffer .exit)) ≡ hostBacklog (now (table .entry)) (now (buffer .entry)) ⌝ }
+{
+    if table.len() != TABLE_LENGTH {
+        return answer(1, 0);
+    }
+    let filled = supervisor::backlog(decode_table(table), buffer);
+    answer(filled.refusal, filled.length as u16)
 }

@@ -5,7 +5,7 @@ use mathlib.Core.Path.{_≡_, refl, sym, ap, _∙_}
 use native.Mathlib.Nat.{add-zero, div-add-mod'}
 use native.Mathlib.Omega.{arith}
 use lib.ListN.{length, getD, take, drop}
-use lib.Seq.{drop-drop, take-add}
+use lib.Seq.{drop-drop, getD-drop, getD-take, take-add}
 use Rattle.slices.specs.Slices.{AllBytes, partOf, tabulate}
 use Rattle.slices.specs.Numbers.{u16Bytes, u32Bytes, u16sBytes, u16At, u32At, u16sAt}
 use Rattle.slices.specs.PieceLaws.{part-tabulated}
@@ -20,6 +20,14 @@ u32-decoded n rest = simp div-add-mod'
 pub u16s-length : (numbers : List ℕ) → length (u16sBytes numbers) ≡ 2 * length numbers
 u16s-length [] = refl
 u16s-length (n ∷ ns) = omega (arith, u16s-length ns)
+
+-- a number in a part is the one that stands there in the whole
+pub u16-in-part : (s : List ℕ) (at n i : ℕ) → i + 2 ≤ n → u16At (partOf s at n) i ≡ u16At s (at + i)
+u16-in-part s at n i h =
+    let high : getD (partOf s at n) i 0 ≡ getD s (at + i) 0 = getD-take n (drop at s) i 0 (omega arith) ∙ getD-drop at s i 0 in
+    let low : getD (partOf s at n) (i + 1) 0 ≡ getD s (at + (i + 1)) 0 = getD-take n (drop at s) (i + 1) 0 (omega arith) ∙ getD-drop at s (i + 1) 0 in
+    let place : at + (i + 1) ≡ at + i + 1 = omega arith in
+    (λ j. high j * 256 + (low ∙ ap (λ (m : ℕ). getD s m 0) place) j)
 
 -- the bytes that stand where a number was read
 u16-bytes : (a b : ℕ) → b < 256 → u16Bytes (a * 256 + b) ≡ a ∷ b ∷ []

@@ -7,7 +7,8 @@ use native.Mathlib.Nat.{add-zero, mul-suc, mul-zero}
 use native.Mathlib.Numerals.{add-one}
 use native.Mathlib.Omega.{arith}
 use lib.ListN.{length, getD, take, drop, length-append, length-set, set}
-use lib.Seq.{drop-cons, drop-drop, take-add, take-all, take-suc, take-suc-set}
+use lib.Seq.{drop-append-add, drop-cons, drop-drop, take-add, take-all, take-at, take-suc, take-suc-set}
+use Rattle.common.specs.Totals.{totalOf}
 use Rattle.slices.specs.Slices.{partOf, copied, concat, tabulate}
 use Rattle.slices.specs.SliceLaws.{copied-length, copied-next, copied-none}
 
@@ -39,10 +40,6 @@ copied-each (p ∷ ps) d at places room =
     (omega arith)
 
 -- ---- parts
-
-abbrev pub totalOf : List ℕ → ℕ
-totalOf [] = 0
-totalOf (n ∷ ns) = n + totalOf ns
 
 -- the parts of those lengths, from a place on
 abbrev pub partsOf : List ℕ → ℕ → List ℕ → List (List ℕ)
@@ -107,6 +104,23 @@ module _ {A : Type 0} (piece : A → List ℕ) (width : ℕ) (xs : List A) (l : 
         let some : k ≤ length xs = h .some in
         let e : k ≡ length xs = omega arith in
         sym (ap (λ (ys : List A). length (concat (map piece ys))) (take-all k xs past)) ∙ h .size ∙ ap (λ (i : ℕ). width * i) e
+
+-- ---- pieces of one width, read one by one
+
+-- the i-th piece stands behind i others, whatever follows them all
+pub piece-at : {A : Type 0} (piece : A → List ℕ) (width : ℕ) → ((x : A) → length (piece x) ≡ width) → (xs : List A) (rest : List ℕ) (i : ℕ) (none : A) → i < length xs
+    → partOf (concat (map piece xs) ++ rest) (width * i) width ≡ piece (getD xs i none)
+piece-at piece width wide [] rest i none q = absurd (omega arith)
+piece-at piece width wide (x ∷ xs) rest zero none q =
+    ap (λ (n : ℕ). partOf (piece x ++ concat (map piece xs) ++ rest) n width) (mul-zero width)
+    ∙ ap (take width) (append-assoc (piece x) (concat (map piece xs)) rest)
+    ∙ take-at (piece x) (concat (map piece xs) ++ rest) width (wide x)
+piece-at piece width wide (x ∷ xs) rest (suc i) none q =
+    let place : width * suc i ≡ length (piece x) + width * i = mul-suc width i ∙ (omega (arith, wide x)) in
+    ap (λ (l : List ℕ). take width (drop (width * suc i) l)) (append-assoc (piece x) (concat (map piece xs)) rest)
+    ∙ ap (λ (n : ℕ). take width (drop n (piece x ++ (concat (map piece xs) ++ rest)))) place
+    ∙ ap (take width) (drop-append-add (piece x) (concat (map piece xs) ++ rest) (width * i))
+    ∙ piece-at piece width wide xs rest i none (omega arith)
 
 -- ---- elements
 

@@ -4,3 +4,5 @@ pub mod LoadedSlotLaws
 pub mod DrainingLaws
 pub mod LoadingLaws
 pub mod RunningLaws
+pub mod InsertionLaws
+pub mod BacklogLineLaws

@@ -6,7 +6,7 @@ use Prim.Native.Nat.{ℕ}
 use lib.Dec.{eqb}
 use lib.ListN.{length, drop, replicate}
 use Rattle.common.specs.Choice.{if_then_else_}
-use Rattle.common.specs.Refusals.{Condition, refusalBy}
+use Rattle.common.specs.Refusals.{Condition, refusalBy, unless}
 use Rattle.common.specs.declared.places.Location.{Location}
 use Rattle.pattern.specs.Reader.{parametersOf}
 use Rattle.supervisor.specs.System.{System, system, slotOf, Patch, patched}
@@ -17,6 +17,7 @@ use Rattle.supervisor.specs.Draining.{drainConditions, drainPatch, writt
 use Rattle.supervisor.specs.Unloading.{unloadPatch}
 use Rattle.supervisor.specs.Running.{afterRun}
 use Rattle.supervisor.specs.Reporting.{reportedPsu}
+use Rattle.supervisor.specs.BacklogQuery.{backlogConditions, backlogBytes, backlogLength}
 use Rattle.supervisor.specs.Table.{slotAt}
 use Rattle.supervisor.specs.declared.reported.Report.{Report}
 use Rattle.supervisor.specs.declared.table.Slot.{Slot}
@@ -29,9 +30,10 @@ pub data Change : Type 0 where
   feed : (bytes : List ℕ) → Change
   drain : (room : ℕ) → Change
 
--- what is asked of a table
+-- what is asked of a table; `backlog` is given the length of its buffer
 pub data Query : Type 0 where
   report : (slot : ℕ) → Query
+  backlog : (room : ℕ) → Query
 
 -- a call that takes the table
 pub data Call : Type 0 where
@@ -50,6 +52,7 @@ changeConditions (drain room) x k = systemConditions x ++ loadedSlotConditions (
 
 unfoldable pub queryConditions : Query → Table → List Condition
 queryConditions (report k) t = tableConditions t ++ loadedSlotConditions t k
+queryConditions (backlog room) t = tableConditions t ++ backlogConditions t room
 
 -- the number that refuses a call, 0 if it is accepted
 unfoldable pub refusal : Call → System → ℕ
@@ -91,7 +94,7 @@ outcome n t memory = record { refusal = n; after = system t memory }
 unfoldable pub outcomeOf : Call → System → Outcome
 outcomeOf c x = record { refusal = refusal c x; after = afterCall c x }
 
--- ---- what a drain and a report hand over
+-- ---- what a drain, a report and a backlog hand over
 
 -- how many bytes are drained, and the buffer afterwards; a refusal drains none and leaves it
 unfoldable pub drainedCount : System → ℕ → ℕ → ℕ
@@ -121,3 +124,19 @@ reportOf t k =
       psl = slotAt t k .state .cpu .psl;
     }
     else record { refusal = queryRefusal (report k) t; status = 0; counter = 0; registers = replicate 7 0; psu = 0; psl = 0 }
+
+-- what a backlog answers and leaves, as one value
+pub record BacklogOutcome : Type 0 where
+  pub refusal : ℕ
+  pub size : ℕ
+  pub buffer : List ℕ
+
+abbrev pub backlogOutcome : ℕ → ℕ → List ℕ → BacklogOutcome
+backlogOutcome n size buffer = record { refusal = n; size = size; buffer = buffer }
+
+-- how many bytes are filled, and the buffer afterwards: the backlog at its front and the rest left; a refusal fills none and leaves it
+unfoldable pub backlogOf : Table → List ℕ → BacklogOutcome
+backlogOf t buffer =
+    unless (λ n. backlogOutcome n 0 buffer)
+    (queryConditions (backlog (length buffer)) t)
+    (backlogOutcome 0 (backlogLength t) (backlogBytes t ++ drop (backlogLength t) buffer))

@@ -1,12 +1,14 @@
 -- Laws that the checker has shown: what the conditions that calls share say where none of them holds.
-use mathlib.Core.Bool.{false}
+use mathlib.Core.Bool.{Bool, true, false, not}
 use mathlib.Core.List.{List, _++_}
-use mathlib.Core.Path.{_≡_, sym, _∙_}
+use mathlib.Core.Path.{_≡_, refl, sym, _∙_}
 use Prim.Native.Nat.{ℕ, _≤_, _<_}
 use native.Mathlib.Omega.{arith}
 use borrow.Author.Tests.{eqb-true, ltb-false, not-false}
 use lib.Dec.{eqb}
 use lib.ListN.{length}
+use Rattle.common.specs.Choice.{if_then_else_}
+use Rattle.common.specs.ConditionDefinitions.{condition-definitions}
 use Rattle.common.specs.RefusalLaws.{NoneHolds, NoneGivesZero, given-numbered, numbered-parts, none-parts, zero-parts, none-holds}
 use Rattle.common.specs.Refusals.{Condition, refusalBy}
 use Rattle.pattern.specs.Reader.{readRefusal, readOf}
@@ -82,6 +84,34 @@ loaded-holds t k s h =
     let l : k ≤ 7 = ltb-false 7 k slot in
     let q : k < 8 = omega arith in
     record { table = s; slot = q; loaded = loaded-slot (t .size) (slotAt t k) (s .each k q) loaded }
+
+-- ---- calls with a table alone
+
+-- a table is refused by 1 exactly if it is unsound
+module _ (t : Table) {n : ℕ} (e : n ≡ refusalBy (tableConditions t)) where
+  table-answer : n ≡ (if tableSound t then 0 else 1)
+  unfolding tableConditions condition-definitions
+  table-answer = e ∙ go (tableSound t)
+    where
+      go : (b : Bool) → _≡_ {A = ℕ} (if not b then 1 else 0) (if b then 0 else 1)
+      go true = refl
+      go false = refl
+
+  pub table-accepted : n ≡ 0 → tableSound t ≡ true
+  unfolding if_then_else_
+  table-accepted none = go (tableSound t) refl table-answer
+    where
+      go : (b : Bool) → tableSound t ≡ b → n ≡ (if b then 0 else 1) → tableSound t ≡ true
+      go true h a = h
+      go false h a = absurd (omega arith)
+
+  pub table-refused : (n ≡ 0 → ⊥) → (n ≡ 1) × (tableSound t ≡ false)
+  unfolding if_then_else_
+  table-refused some = go (tableSound t) refl table-answer
+    where
+      go : (b : Bool) → tableSound t ≡ b → n ≡ (if b then 0 else 1) → (n ≡ 1) × (tableSound t ≡ false)
+      go true h a = absurd (some a)
+      go false h a = (a, h)
 
 -- ---- calls at a slot that holds a pattern
 

@@ -11,12 +11,14 @@ pub mod Feeding
 pub mod Draining
 pub mod Running
 pub mod Reporting
+pub mod BacklogQuery
 pub mod Calls
 pub mod Events
 pub mod Isolation
+pub mod BacklogFilled
 -- Names for lists of definitions.
 pub mod CallDefinitions
--- Laws that the checker has shown: IsolationTheorem is demand 3, the others carry it.
+-- Laws that the checker has shown: IsolationTheorem is demand 3, BacklogTheorem what a backlog fills; the others carry these.
 pub mod SoundLaws
 pub mod ConditionLaws
 pub mod SlotMachineLaws
@@ -25,3 +27,6 @@ pub mod RoundLaws
 pub mod OutcomeLaws
 pub mod ChangeLaws
 pub mod IsolationTheorem
+pub mod BacklogOrderLaws
+pub mod BacklogLaws
+pub mod BacklogTheorem

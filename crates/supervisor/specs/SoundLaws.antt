@@ -117,21 +117,22 @@ pub record Loaded (size : ℕ) (s : Slot) : Type 0 where
   pub partition : PartitionSound size (s .partition)
   pub state : StateSound (s .partition .layout) (s .state)
 
--- all that the theorem needs of an empty slot
+-- all that the theorems need of an empty slot
 pub record Unloaded (s : Slot) : Type 0 where
   pub base : s .partition .base .0 ≡ 0
   pub bytes : layoutSize (s .partition .layout) ≡ 0
   pub status : s .state .status ≡ 0
+  pub written : s .state .written ≡ 0
 
 zero-slot : (s : Slot) → isZeroPartition (s .partition) ≡ true → isZeroState (s .state) ≡ true → Unloaded s
 unfolding isZeroPartition isZeroState
 zero-slot s h z =
     let (base, (window, (input, (output, _)))) = all-fact _ h in
-    let (status, _) = all-fact _ z in
+    let (status, (_, (_, (written, _)))) = all-fact _ z in
     let w : s .partition .layout .window ≡ 0 = eqb-true _ _ window in
     let i : s .partition .layout .input ≡ 0 = eqb-true _ _ input in
     let o : s .partition .layout .output ≡ 0 = eqb-true _ _ output in
-    record { base = eqb-true _ _ base; bytes = omega arith; status = eqb-true _ _ status }
+    record { base = eqb-true _ _ base; bytes = omega arith; status = eqb-true _ _ status; written = eqb-true _ _ written }
 
 pub slot-fact : (size : ℕ) (s : Slot) → slotSound size s ≡ true → Unloaded s ⊎ Loaded size s
 unfolding slotSound

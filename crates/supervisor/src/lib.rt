@@ -1,4 +1,5 @@
-// Eight slots over one memory: loading, unloading, feeding, draining, running and reporting.
+// Eight slots over one memory: loading, unloading, feeding, draining, running, reporting and the backlog.
+mod backlog_query;
 mod conditions;
 mod draining;
 mod feeding;
@@ -12,6 +13,8 @@ mod sound;
 mod table;
 mod unloading;
 
+pub use backlog_query::BacklogAnswer;
+pub use backlog_query::backlog;
 pub use draining::DrainAnswer;
 pub use draining::drain;
 pub use feeding::feed;
