@@ -2,7 +2,8 @@
  *
  *     host FIRST.pat SECOND.pat
  *
- * Both run by turns. The second is fed a text, a few bytes whenever it wants input; what each puts out is printed in hexadecimal. */
+ * Both run by turns. The second is fed a text, a few bytes whenever it wants input; what each puts out is printed in hexadecimal, the
+ * one with more bytes first. */
 #include <pattern_floor.h>
 #include <stdio.h>
 #include <string.h>
@@ -35,8 +36,18 @@ static void drain(size_t slot)
 {
     uint8_t out[4096];
     unsigned count = pf_count(pf_drain(table, sizeof table, memory, sizeof memory, slot, out, sizeof out));
-    if (count) printf("slot %u:", (unsigned)slot);
-    for (unsigned i = 0; i < count; i++) printf(" %02X%s", out[i], i + 1 == count ? "\n" : "");
+    printf("slot %u:", (unsigned)slot);
+    for (unsigned i = 0; i < count; i++) printf(" %02X", out[i]);
+    printf("\n");
+}
+
+/* Drains where something waits, in the order of the backlog's lines. The two bytes behind the lines are the total. */
+static void drain_backlog(void)
+{
+    uint8_t backlog[PF_BACKLOG_BYTES];
+    unsigned length = pf_count(pf_backlog(table, sizeof table, backlog, sizeof backlog));
+    for (const uint8_t *line = backlog; line + 3 <= backlog + length; line += 3)
+        if (line[1] || line[2]) drain(line[0]);
 }
 
 /* Whether one of them runs, or the second waits while text is left. */
@@ -56,9 +67,8 @@ int main(int argc, char **argv)
     pf_new(table, sizeof table, sizeof memory);
     if (!load(argv[1], 0, 0) || !load(argv[2], 1, 4096)) return 1;
     for (int turn = 0; turn < 1000 && working(text); turn++) {
-        pf_run(table, sizeof table, memory, sizeof memory, 10);
-        drain(0);
-        drain(1);
+        pf_run(table, sizeof table, memory, sizeof memory, 30);
+        drain_backlog();
         if (status(1) == PF_STATUS_WANTS_INPUT && *text) {
             size_t piece = strlen(text) < 4 ? strlen(text) : 4;
             pf_feed(table, sizeof table, memory, sizeof memory, 1, (const uint8_t *)text, piece);

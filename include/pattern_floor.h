@@ -67,6 +67,7 @@ enum {
     PF_SLOTS = 8,
     PF_TABLE_BYTES = 364,
     PF_REPORT_BYTES = 12,
+    PF_BACKLOG_BYTES = 26,      /* the longest backlog: a line of three bytes for each of eight slots, and the total */
     PF_VALUES_BYTES = 9,
     PF_STATE_BYTES = 34,
     PF_FILE_LEAST = 31,         /* the shortest and the longest pattern file */
@@ -104,7 +105,8 @@ pf_answer pf_feed(uint8_t *table, size_t table_length, uint8_t *memory, size_t m
                   size_t slot, const uint8_t *input, size_t input_length);
 
 /* Takes what a pattern has put out, to the front of `buffer`; pf_count() is how many bytes, 0 too. The rest of the buffer is left. A
- * pattern whose output was full (4) runs again. A buffer of the output's capacity, at most 4096, is always long enough.
+ * pattern whose output was full (4) runs again. A buffer of the output's capacity, at most 4096, is always long enough; pf_backlog tells
+ * what is enough now.
  * Refused: 1, 2, 3, 5, 16. */
 pf_answer pf_drain(uint8_t *table, size_t table_length, const uint8_t *memory, size_t memory_length,
                    size_t slot, uint8_t *buffer, size_t buffer_length);
@@ -119,6 +121,15 @@ pf_answer pf_run(uint8_t *table, size_t table_length, uint8_t *memory, size_t me
  * Bit 7 of PSU is Sense: 1 exactly while input is unread. A table does not store it.
  * Refused: 1, 3, 5, 16. */
 pf_answer pf_report(const uint8_t *table, size_t table_length, size_t slot, uint8_t *report, size_t report_length);
+
+/* Tells where to drain first. The front of `buffer` gets a line of three bytes for each loaded slot, whatever its status, and then the total
+ * of their counts in two bytes; the rest is left. A line:
+ *   0 slot; 1 and 2 its count: how many bytes it has put out that were not drained, 0 too. Counts and total have the high byte first.
+ * Most bytes come first; of equal counts, the lower slot.
+ * pf_count() is the length filled, 3 for each loaded slot and 2: a buffer of that length is long enough, and one of PF_BACKLOG_BYTES always is.
+ * Nothing is drained, and the memory is not needed.
+ * Refused: 1, 16. */
+pf_answer pf_backlog(const uint8_t *table, size_t table_length, uint8_t *buffer, size_t buffer_length);
 
 /* ---- Pattern files --------------------------------------------------------------------------------------------------- */
 
