@@ -2,6 +2,7 @@
 #include "pattern_floor.h"
 #include "listing.h"
 #include "product_level.h"
+#include "scripts.h"
 #include "speed.h"
 #include "vectors.h"
 #include <stdio.h>
@@ -12,6 +13,7 @@ static int usage(void)
     fprintf(stderr,
             "usage: bench [FILE]          prints the two lines of a pattern file, or of standard input\n"
             "       bench --vectors DATA  makes the stored bench runs and compares\n"
+            "       bench --scripts DATA  makes the calls of the stored scripts and compares\n"
             "       bench --speed DIR     prints instructions a second of the patterns in DIR, beside the reference's\n");
     return 2;
 }
@@ -46,6 +48,7 @@ int main(int argc, char **argv)
     ref_level = PRODUCT_LEVEL;
     if (argc == 1) return print_listing(stdin);
     if (argc == 3 && !strcmp(argv[1], "--vectors")) return vectors(argv[2]);
+    if (argc == 3 && !strcmp(argv[1], "--scripts")) return scripts(argv[2]);
     if (argc == 3 && !strcmp(argv[1], "--speed")) return speed(argv[2]);
     if (argc == 2 && argv[1][0] != '-') return print_listing_of(argv[1]);
     return usage();

@@ -1,43 +1,53 @@
 #!/usr/bin/env python3
 """Makes crates/scripts/data/scripts.bin of scripts of calls with what each call must answer.
 
-usage: make_data.py VECTORS edges.txt scripts.bin
+usage: make_data.py scripts.bin FILE..    (floor.txt, u1.txt and edges.txt)
 
-VECTORS is the file of scripts that came with document 01 (floor.txt). It is not in this repository, and it is written in
-document 01's words; edges.txt has the glossary's. The lines of a script:
+The scripts of floor.txt came with document 01, those of u1.txt with document 02's request U1. These two are not in this
+repository, and have the documents' words; edges.txt has the glossary's. The lines of a script:
 
     S n                         a new script: table and memory all zero
     new LENGTH => n             the table handed back replaces the table, also when refused
     lend LENGTH                 how much memory is lent from now on
     poke SLOT FIELD VALUE       a field of the table set by hand (slot 8: the length of the memory)
-    unpoke                      back to the table before the pokes
-    load SLOT LOCATION HEX => n
+    unpoke                      back to the table before the last poke
+    load SLOT LOCATION HEX => n         a long file in pieces, parted by commas: XX*n is n times the byte XX
     unload SLOT => n
     feed SLOT HEX => n
     drain SLOT LENGTH => n COUNT HEX    the buffer starts all EE; HEX is all of it afterwards
     lent SLOT LENGTH => n COUNT HEX     the same over the slot itself, lent by reference
     run ROUNDS => n
     report SLOT => n [status counter psu psl, and the seven registers]
+    backlog LENGTH => n FILLED HEX      the buffer starts all EE; HEX is all of it afterwards
     state => CRC                the CRC-32 of 65,536 bytes of memory, and then a line for each loaded slot
     st k: FIELDS                its fields in the order of FIELDS, in decimal
+
+A poke without an unpoke stays. An unpoke takes one poke back: none may follow a group of several.
 
 An entry of scripts.bin: ten two-byte numbers, high byte first (kind, line, slot, wanted refusal, a four-byte number, field or
 count, length of the bytes), two of them spare and zero, then the bytes.
 """
 import sys
 
-NEW_SCRIPT, NEW, LEND, POKE, UNPOKE, LOAD, UNLOAD, FEED, DRAIN, RUN, REPORT, STATE, DRAIN_LENT = range(13)
+NEW_SCRIPT, NEW, LEND, POKE, UNPOKE, LOAD, UNLOAD, FEED, DRAIN, RUN, REPORT, STATE, DRAIN_LENT, BACKLOG = range(14)
 FIELDS = ("base window input output quantum status pc psu psl r0 b0 b1 b2 b3 b4 b5 "
           "ras0 ras1 ras2 ras3 ras4 ras5 ras6 ras7 filled read written length").split()
 SLOT_FIELDS = 27
+# how many bytes a field has where it is not two
+FIELD_BYTES = {"base": 4, "length": 4, **dict.fromkeys("quantum status psu psl r0 b0 b1 b2 b3 b4 b5".split(), 1)}
 
-# what document 01's words for calls and fields are here
-WORDS = {"fresh": "new", "mount": "load", "lift": "unload", "collect": "drain", "pass": "run",
+# what the documents' words for calls and fields are here
+WORDS = {"fresh": "new", "mount": "load", "lift": "unload", "collect": "drain", "pass": "run", "round": "backlog",
          "bay": "base", "icap": "input", "ocap": "output", "stint": "quantum"}
 
 
+def piece(text):
+    byte, times, count = text.partition("*")
+    return bytes.fromhex(byte) * (int(count) if times else 1)
+
+
 def raw(text):
-    return b"" if text == "-" else bytes.fromhex(text)
+    return b"" if text == "-" else b"".join(piece(part) for part in text.split(","))
 
 
 def u16s(numbers):
@@ -56,6 +66,8 @@ def call(line, given, wanted):
         return entry(NEW, line, 0, refusal, int(args[0]))
     if name == "run":
         return entry(RUN, line, 0, refusal, int(args[0]))
+    if name == "backlog":
+        return entry(BACKLOG, line, 0, refusal, int(args[0]), int(wanted[1]), raw(wanted[2]))
     slot = int(args[0])
     if name == "load":
         return entry(LOAD, line, slot, refusal, int(args[1]), 0, raw(args[2]))
@@ -70,9 +82,16 @@ def call(line, given, wanted):
     return entry(REPORT, line, slot, refusal, 0, 0, u16s(numbers))
 
 
+def poke(line, slot, field, value):
+    """The programs take as many bytes of the value as the field has: a larger value would be cut."""
+    assert value < 256 ** FIELD_BYTES.get(field, 2), f"line {line}: {value} does not fit {field}"
+    return entry(POKE, line, slot, 0, value, FIELDS.index(field))
+
+
 def entries(path):
     """Of one file of scripts, in order."""
     out, state = [], None
+    group, last = 0, ""  # how many pokes the last group has, and the last line's name
     for line, text in enumerate([*open(path), ""], 1):
         text = text.split("#")[0].strip()
         if state is not None and not text.startswith("st "):
@@ -82,13 +101,17 @@ def entries(path):
         if not text:
             continue
         given = [WORDS.get(word, word) for word in text.split()]
+        if given[0] == "poke":
+            group = group + 1 if last == "poke" else 1
+        last = given[0]
         if given[0] == "S":
             out.append(entry(NEW_SCRIPT, line))
         elif given[0] == "lend":
             out.append(entry(LEND, line, 0, 0, int(given[1])))
         elif given[0] == "poke":
-            out.append(entry(POKE, line, int(given[1]), 0, int(given[3]), FIELDS.index(given[2])))
+            out.append(poke(line, int(given[1]), given[2], int(given[3])))
         elif given[0] == "unpoke":
+            assert group == 1, f"{path}, line {line}: the last group has {group} pokes"
             out.append(entry(UNPOKE, line))
         elif given[0] == "state":
             state = (int(given[2], 16), line, [[0] * SLOT_FIELDS for _ in range(8)])
@@ -102,8 +125,8 @@ def entries(path):
     return out
 
 
-def main(vectors, edges, target):
-    every = entries(vectors) + entries(edges)
+def main(target, *paths):
+    every = [one for path in paths for one in entries(path)]
     out = b"".join(every)
     open(target, "wb").write(out)
     print(f"{len(every)} entries, {len(out)} bytes")

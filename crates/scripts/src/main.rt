@@ -82,8 +82,8 @@ fn result_of_call(script: ScriptState, answer: Answer, entry: &[u8]) -> EntryRes
     }
 }
 
-// Whether a drain answered as the entry wants, and left its buffer so.
-fn same_drained(refusal: u8, count: usize, buffer: &[u8], entry: &[u8]) -> bool {
+// Whether a call that fills a buffer answered as the entry wants, and left its buffer so.
+fn same_filled(refusal: u8, count: usize, buffer: &[u8], entry: &[u8]) -> bool {
     (refusal as u16 == wanted(entry))
         & (count == u16_at(entry, 12) as usize)
         & check::same(front(buffer, number(entry)), bytes(entry))
@@ -101,7 +101,7 @@ fn drain_into(script: ScriptState, memory: &[u8], entry: &[u8], buffer: &mut [u8
     let table = answer.table;
     EntryResult {
         script: with_table(script, table),
-        same: same_drained(refusal, answer.count, buffer, entry),
+        same: same_filled(refusal, answer.count, buffer, entry),
         refusal,
     }
 }
@@ -129,20 +129,35 @@ fn drain_lent_into(
     table.slots[k] = after;
     EntryResult {
         script: with_table(script, table),
-        same: same_drained(drained.refusal, drained.count, buffer, entry),
+        same: same_filled(drained.refusal, drained.count, buffer, entry),
         refusal: drained.refusal,
     }
 }
 
-// The buffer starts as EEh throughout, as the script's.
-fn drain_entry(script: ScriptState, memory: &[u8], entry: &[u8]) -> EntryResult {
-    let mut buffer = [238u8; 16];
-    drain_into(script, memory, entry, &mut buffer)
+// The backlog, likewise.
+fn backlog_into(script: ScriptState, entry: &[u8], buffer: &mut [u8]) -> EntryResult {
+    let n = number(entry);
+    if buffer.len() < n {
+        return result_without_call(script, false);
+    }
+    let table = script.table;
+    let answer = supervisor::backlog(table, &mut buffer[..n]);
+    let refusal = answer.refusal;
+    EntryResult {
+        script,
+        same: same_filled(refusal, answer.length, buffer, entry),
+        refusal,
+    }
 }
 
-fn drain_lent_entry(script: ScriptState, memory: &[u8], entry: &[u8]) -> EntryResult {
-    let mut buffer = [238u8; 16];
-    drain_lent_into(script, memory, entry, &mut buffer)
+// A call that fills a buffer, which starts as EEh throughout, as the script's.
+fn filling_entry(script: ScriptState, memory: &[u8], entry: &[u8]) -> EntryResult {
+    let mut buffer = [238u8; 40];
+    match kind(entry) {
+        8 => drain_into(script, memory, entry, &mut buffer),
+        12 => drain_lent_into(script, memory, entry, &mut buffer),
+        _ => backlog_into(script, entry, &mut buffer),
+    }
 }
 
 fn report_entry(script: ScriptState, entry: &[u8]) -> EntryResult {
@@ -180,13 +195,14 @@ fn call_entry(script: ScriptState, memory: &mut [u8], entry: &[u8]) -> EntryResu
             let answer = supervisor::feed(table, memory, slot(entry), bytes(entry));
             result_of_call(script, answer, entry)
         }
-        8 => drain_entry(script, memory, entry),
+        8 => filling_entry(script, memory, entry),
         9 => {
             let answer = supervisor::run(table, memory, value16(entry));
             result_of_call(script, answer, entry)
         }
         10 => report_entry(script, entry),
-        12 => drain_lent_entry(script, memory, entry),
+        12 => filling_entry(script, memory, entry),
+        13 => filling_entry(script, memory, entry),
         _ => result_without_call(script, false),
     }
 }

@@ -28,8 +28,8 @@ drain-requires c κs = search needs
 with-table-requires : tie.Need-with-table-requires
 with-table-requires c κs = search needs
 
-same-drained-requires : tie.Need-same-drained-requires
-same-drained-requires c κs = search needs
+same-filled-requires : tie.Need-same-filled-requires
+same-filled-requires c κs = search needs
 
 same-length : tie.Need-same-length
 same-length c = search needs
@@ -49,6 +49,6 @@ drain-into-spec =
     slice-aggregate-drain
     drain-requires
     with-table-requires
-    same-drained-requires
+    same-filled-requires
     same-length
     returns-2)

@@ -46,8 +46,8 @@ element-set-from-after c = search needs
 with-table-requires : tie.Need-with-table-requires
 with-table-requires c κs = search needs
 
-same-drained-requires : tie.Need-same-drained-requires
-same-drained-requires c κs = search needs
+same-filled-requires : tie.Need-same-filled-requires
+same-filled-requires c κs = search needs
 
 same-length : tie.Need-same-length
 same-length c = search needs
@@ -73,6 +73,6 @@ drain-lent-into-spec =
     mul-after
     element-set-from-after
     with-table-requires
-    same-drained-requires
+    same-filled-requires
     same-length
     returns-3)

@@ -1,0 +1,258 @@
+#include "scripts.h"
+#include "pattern_floor.h"
+#include <stdio.h>
+#include <string.h>
+
+/* The kinds of entries, numbered as in make_data.py. */
+enum { NEW_SCRIPT, NEW, LEND, POKE, UNPOKE, LOAD, UNLOAD, FEED, DRAIN, RUN, REPORT, STATE, DRAIN_LENT, BACKLOG };
+
+enum {
+    HEADER_LENGTH = 20,     /* the numbers before an entry's bytes */
+    SLOTS_OFFSET = 4,       /* where slot 0 stands in a table's bytes */
+    SLOT_BYTES = 45,
+    SLOT_FIELDS = 27,       /* the number behind them, in a poke, is the memory's length */
+    REPORT_FIELDS = 11,
+    UNTOUCHED = 0xEE,       /* what a lent buffer holds before the call */
+    BUFFER_ROOM = 64        /* no script lends a longer buffer */
+};
+
+typedef struct {
+    unsigned kind, line, slot, refusal;
+    uint32_t number;        /* a location, the length of a memory or a buffer, rounds, a field's value or a check sum */
+    unsigned field;         /* or the count that is wanted */
+    size_t length;
+    const uint8_t *bytes;
+} entry;
+
+typedef struct {
+    unsigned scripts, accepted, refused, states, different;
+    pf_answer answer;       /* of the last call */
+} tally;
+
+static uint8_t data[1 << 20], table[PF_TABLE_BYTES], table_before_poke[PF_TABLE_BYTES], buffer[BUFFER_ROOM];
+static uint8_t memory[PF_MEMORY_MOST + 1];      /* a script may lend a byte more than any table is made for */
+static size_t lent_length;
+
+/* ---- entries */
+
+static unsigned u16_at(const uint8_t *p) { return (unsigned)p[0] << 8 | p[1]; }
+static uint32_t u32_at(const uint8_t *p) { return (uint32_t)u16_at(p) << 16 | u16_at(p + 2); }
+
+static entry entry_at(const uint8_t *p)
+{
+    return (entry){ u16_at(p), u16_at(p + 2), u16_at(p + 4), u16_at(p + 6), u32_at(p + 8),
+                    u16_at(p + 12), u16_at(p + 14), p + HEADER_LENGTH };
+}
+
+static size_t entry_length(const entry *e) { return HEADER_LENGTH + e->length; }
+static int is_call(const entry *e) { return e->kind == NEW || (e->kind >= LOAD && e->kind != STATE); }
+
+/* ---- numbers in bytes, high byte first */
+
+typedef struct {
+    uint8_t offset, width;
+} field;
+
+/* The fields of a slot, and those of a report, in the scripts' order. */
+static const field slot_fields[SLOT_FIELDS] = {
+    { 0, 4 }, { 4, 2 }, { 6, 2 }, { 8, 2 }, { 10, 1 },                              /* base, sizes, quantum */
+    { 38, 1 }, { 11, 2 }, { 20, 1 }, { 21, 1 },                                     /* status, counter, PSU, PSL */
+    { 13, 1 }, { 14, 1 }, { 15, 1 }, { 16, 1 }, { 17, 1 }, { 18, 1 }, { 19, 1 },    /* registers */
+    { 22, 2 }, { 24, 2 }, { 26, 2 }, { 28, 2 },                                     /* return addresses */
+    { 30, 2 }, { 32, 2 }, { 34, 2 }, { 36, 2 },
+    { 39, 2 }, { 41, 2 }, { 43, 2 }                                                 /* filled, read, written */
+};
+static const field report_fields[REPORT_FIELDS] = {
+    { 0, 1 }, { 1, 2 }, { 10, 1 }, { 11, 1 },                                       /* status, counter, PSU, PSL */
+    { 3, 1 }, { 4, 1 }, { 5, 1 }, { 6, 1 }, { 7, 1 }, { 8, 1 }, { 9, 1 }            /* registers */
+};
+
+static uint32_t number_at(const uint8_t *p, unsigned width)
+{
+    uint32_t n = 0;
+    while (width--) n = n << 8 | *p++;
+    return n;
+}
+
+/* As many of the number's low bytes as there is room for: make_data.py refuses a value that would be cut. */
+static void put_number(uint8_t *p, unsigned width, uint32_t n)
+{
+    for (; width; n >>= 8) p[--width] = (uint8_t)n;
+}
+
+/* A script has two bytes for each number, whatever its width. */
+static int numbers_agree(const uint8_t *bytes, const field *fields, unsigned count, const uint8_t *wanted)
+{
+    for (unsigned i = 0; i < count; i++)
+        if (number_at(bytes + fields[i].offset, fields[i].width) != u16_at(wanted + 2 * i)) return 0;
+    return 1;
+}
+
+/* ---- the table and its memory */
+
+static uint8_t *slot_bytes(unsigned slot) { return table + SLOTS_OFFSET + SLOT_BYTES * slot; }
+
+static uint32_t crc32(const uint8_t *p, size_t length)
+{
+    uint32_t crc = UINT32_MAX;
+    while (length--) {
+        crc ^= *p++;
+        for (int bit = 0; bit < 8; bit++) crc = crc >> 1 ^ (crc & 1 ? 0xEDB88320u : 0);
+    }
+    return ~crc;
+}
+
+static int state_agrees(const entry *e)
+{
+    if (e->length != PF_SLOTS * SLOT_FIELDS * 2 || crc32(memory, PF_MEMORY_MOST) != e->number) return 0;
+    for (unsigned k = 0; k < PF_SLOTS; k++)
+        if (!numbers_agree(slot_bytes(k), slot_fields, SLOT_FIELDS, e->bytes + k * SLOT_FIELDS * 2)) return 0;
+    return 1;
+}
+
+/* ---- calls */
+
+#define TABLE table, sizeof table
+#define MEMORY memory, lent_length
+
+/* The scripts go on with an all-zero table if a new one is refused; an entry point leaves the bytes. */
+static pf_answer make_new(size_t length)
+{
+    pf_answer made = pf_new(TABLE, length);
+    if (pf_refusal(made)) memset(table, 0, sizeof table);
+    return made;
+}
+
+/* Draining over one slot that is lent has no entry point: the slot is drained as the only one of a table, as
+ * crates/lend has it. */
+static pf_answer drain_lent(unsigned slot, size_t room)
+{
+    uint8_t alone[PF_TABLE_BYTES];
+    if (pf_refusal(pf_new(alone, sizeof alone, lent_length))) return (pf_answer)PF_NOT_SOUND << 16;
+    memcpy(alone + SLOTS_OFFSET, slot_bytes(slot), SLOT_BYTES);
+    pf_answer drained = pf_drain(alone, sizeof alone, MEMORY, 0, buffer, room);
+    memcpy(slot_bytes(slot), alone + SLOTS_OFFSET, SLOT_BYTES);
+    return drained;
+}
+
+/* A call that fills a buffer is lent the front of `buffer`. */
+static pf_answer make_call(const entry *e)
+{
+    switch (e->kind) {
+    case NEW: return make_new(e->number);
+    case LOAD: return pf_load(TABLE, MEMORY, e->slot, e->number, e->bytes, e->length);
+    case UNLOAD: return pf_unload(TABLE, MEMORY, e->slot);
+    case FEED: return pf_feed(TABLE, MEMORY, e->slot, e->bytes, e->length);
+    case DRAIN: return pf_drain(TABLE, MEMORY, e->slot, buffer, e->number);
+    case RUN: return pf_run(TABLE, MEMORY, (uint16_t)e->number);
+    case REPORT: return pf_report(TABLE, e->slot, buffer, PF_REPORT_BYTES);
+    case DRAIN_LENT: return drain_lent(e->slot, e->number);
+    default: return pf_backlog(TABLE, buffer, e->number);
+    }
+}
+
+static int fills_buffer(const entry *e) { return e->kind == DRAIN || e->kind == DRAIN_LENT || e->kind == BACKLOG; }
+
+static int is_untouched_from(size_t at)
+{
+    while (at < sizeof buffer && buffer[at] == UNTOUCHED) at++;
+    return at >= sizeof buffer;
+}
+
+/* The whole of `buffer` is compared: what is not lent stays as it was, and all of it where nothing is filled. */
+static int buffer_agrees(const entry *e)
+{
+    if (fills_buffer(e)) return !memcmp(buffer, e->bytes, e->length) && is_untouched_from(e->length);
+    if (e->kind == REPORT && !e->refusal)
+        return numbers_agree(buffer, report_fields, REPORT_FIELDS, e->bytes) && is_untouched_from(PF_REPORT_BYTES);
+    return is_untouched_from(0);
+}
+
+/* Whether there is such a call, and room for what it is lent. */
+static int can_be_made(const entry *e)
+{
+    if (e->kind > BACKLOG || lent_length > sizeof memory) return 0;
+    if (e->kind == DRAIN_LENT && e->slot >= PF_SLOTS) return 0;
+    if (e->kind == RUN) return e->number <= UINT16_MAX;
+    if (e->kind == REPORT) return e->length == REPORT_FIELDS * 2;
+    return !fills_buffer(e) || (e->number <= BUFFER_ROOM && e->length == e->number);
+}
+
+static int call_agrees(const entry *e, tally *t)
+{
+    t->answer = 0;
+    if (!can_be_made(e)) return 0;
+    memset(buffer, UNTOUCHED, sizeof buffer);
+    t->answer = make_call(e);
+    if (pf_refusal(t->answer)) t->refused++;
+    else t->accepted++;
+    return pf_refusal(t->answer) == e->refusal && pf_count(t->answer) == e->field && buffer_agrees(e);
+}
+
+/* ---- scripts */
+
+static void begin_script(void)
+{
+    memset(table, 0, sizeof table);
+    memset(table_before_poke, 0, sizeof table_before_poke);
+    memset(memory, 0, sizeof memory);
+    lent_length = 0;
+}
+
+static void poke(const entry *e)
+{
+    memcpy(table_before_poke, table, sizeof table);
+    if (e->field == SLOT_FIELDS) {
+        put_number(table, 4, e->number);
+    } else if (e->slot < PF_SLOTS && e->field < SLOT_FIELDS) {
+        const field *f = &slot_fields[e->field];
+        put_number(slot_bytes(e->slot) + f->offset, f->width, e->number);
+    }
+}
+
+/* Answers whether all is as the entry has it. */
+static int entry_agrees(const entry *e, tally *t)
+{
+    if (is_call(e)) return call_agrees(e, t);
+    switch (e->kind) {
+    case NEW_SCRIPT: t->scripts++; begin_script(); return 1;
+    case LEND: lent_length = e->number; return 1;
+    case POKE: poke(e); return 1;
+    case UNPOKE: memcpy(table, table_before_poke, sizeof table); return 1;
+    default: t->states++; return state_agrees(e);
+    }
+}
+
+static void count_difference(const entry *e, tally *t)
+{
+    printf("differs: script %u, line %u", t->scripts, e->line);
+    if (is_call(e))
+        printf(", wanted %u and count %u, answered %u and count %u", e->refusal, e->field, pf_refusal(t->answer),
+               pf_count(t->answer));
+    printf("\n");
+    t->different++;
+}
+
+int scripts(const char *path)
+{
+    FILE *f = fopen(path, "rb");
+    if (!f) {
+        perror(path);
+        return 2;
+    }
+    size_t size = fread(data, 1, sizeof data - HEADER_LENGTH, f);
+    fclose(f);
+    tally t = { 0, 0, 0, 0, 0, 0 };
+    for (size_t at = 0; at < size;) {
+        entry e = entry_at(data + at);
+        if (entry_length(&e) > size - at) {
+            printf("%s ends inside an entry\n", path);
+            return 1;
+        }
+        if (!entry_agrees(&e, &t)) count_difference(&e, &t);
+        at += entry_length(&e);
+    }
+    printf("%u scripts: %u calls accepted, %u refused, %u states compared, %u different\n",
+           t.scripts, t.accepted, t.refused, t.states, t.different);
+    return t.different || !t.scripts;
+}
