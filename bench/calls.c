@@ -8,7 +8,7 @@
 #include <string.h>
 
 const char *const call_names[CALL_KINDS] = {
-    "pf_new", "pf_load", "pf_unload", "pf_feed", "pf_drain", "pf_run", "pf_report",
+    "pf_new", "pf_load", "pf_unload", "pf_feed", "pf_drain", "pf_run", "pf_report", "pf_backlog",
     "pf_read", "pf_code", "pf_input", "pf_write"
 };
 
@@ -29,6 +29,7 @@ const uint32_t call_refusals[CALL_KINDS] = {
     [CALL_DRAIN] = SLOT_REFUSALS | BIT(PF_EMPTY) | BIT(PF_SHORT),
     [CALL_RUN] = SYSTEM_REFUSALS,
     [CALL_REPORT] = BIT(0) | BIT(PF_NOT_SOUND) | BIT(PF_NO_SLOT) | BIT(PF_EMPTY) | BIT(PF_SHORT),
+    [CALL_BACKLOG] = BIT(0) | BIT(PF_NOT_SOUND) | BIT(PF_SHORT),
     [CALL_READ] = READER_REFUSALS | BIT(PF_SHORT),
     [CALL_CODE] = READER_REFUSALS,
     [CALL_INPUT] = READER_REFUSALS,
@@ -63,6 +64,17 @@ static buffer_pair *lend_other(call *c, const buffer_pair *p)
 static void lend_table(call *c, system_pair *both)
 {
     c->table = random_one_in(60) ? lend_other(c, &both->table) : &both->table;
+}
+
+/* A table that no memory goes with. */
+static void lend_table_alone(call *c, ref_table *table)
+{
+    uint8_t bytes[PF_TABLE_BYTES];
+    table_random_counts(table);
+    if (random_one_in(8)) table_damage(table);
+    encode_table(table, bytes);
+    c->table = &c->buffers[c->buffer_count++];
+    *c->table = buffer_pair_of("table", bytes, sizeof bytes);
 }
 
 static void lend_system(call *c, system_pair *both)
@@ -329,6 +341,29 @@ static void make_report(call *c, system_pair *both)
     if (!c->refusal) encode_report(&reported, report->reference);
 }
 
+/* a line of three bytes for each loaded slot, and the total */
+static size_t backlog_length(const ref_table *table)
+{
+    size_t length = 2;
+    for (size_t k = 0; k < SLOTS; k++)
+        if (is_taken(&table->slots[k])) length += 3;
+    return length;
+}
+
+/* Half of the calls are lent a table that is no system's, where counts are larger, and more often equal, than lists of
+ * calls make them. */
+static void make_backlog(call *c, system_pair *both)
+{
+    ref_table asked = both->reference_table;
+    if (random_one_in(2)) lend_table(c, both);
+    else lend_table_alone(c, &asked);
+    buffer_pair *buffer = lend_buffer(c, "buffer", random_room_for(backlog_length(&asked)));
+    size_t count = 0;
+    c->answer = pf_backlog(PRODUCT_ARGS(c->table), PRODUCT_ARGS(buffer));
+    c->refusal = !has_full_table(c) ? PF_NOT_SOUND : (unsigned)ref_backlog(&asked, REFERENCE_ARGS(buffer), &count);
+    c->expected = (uint32_t)count;
+}
+
 /* ---- calls with a file */
 
 static size_t random_file_memory(void) { return random_one_in(30) ? 40960 : random_between(3, 600); }
@@ -441,6 +476,7 @@ static void make_kind(call *c, system_pair *both)
     case CALL_DRAIN: make_drain(c, both); break;
     case CALL_RUN: make_run(c, both); break;
     case CALL_REPORT: make_report(c, both); break;
+    case CALL_BACKLOG: make_backlog(c, both); break;
     case CALL_READ: make_read(c); break;
     case CALL_WRITE: make_write(c); break;
     default: make_stretch(c); break;

@@ -155,7 +155,7 @@ static void catch_faults(void)
 
 static enum call_kind random_kind(const ref_table *table)
 {
-    static const uint8_t shares[CALL_KINDS] = { 1, 23, 8, 13, 12, 25, 6, 3, 3, 3, 3 };
+    static const uint8_t shares[CALL_KINDS] = { 1, 22, 8, 12, 12, 23, 5, 5, 3, 3, 3, 3 };
     size_t n = random_below(100), k = 0, taken = 0;
     while (n >= shares[k]) n -= shares[k++];
     for (size_t i = 0; i < SLOTS; i++) taken += table->slots[i].status != ST_EMPTY;

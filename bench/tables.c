@@ -81,6 +81,30 @@ void table_random(ref_table *table, uint8_t *memory, size_t length)
     }
 }
 
+/* How many bytes were put out, and a capacity for them. Counts are often equal, or differ in one of their bytes. */
+static void random_count(ref_slot *s)
+{
+    static const uint16_t counts[] = { 0, 0, 1, 2, 255, 256, 257, 511, 512, 513, 4095, MAX_CAPACITY };
+    s->written = random_one_in(3) ? (uint16_t)random_below(MAX_CAPACITY + 1) : RANDOM_OF(counts);
+    s->output = s->written ? s->written : 1;
+    if (s->status == ST_FULL) s->written = s->output;
+    else s->output = (uint16_t)random_between(s->output, MAX_CAPACITY);
+}
+
+/* Each partition has its eighth of the longest memory, of which half is kept for the output. */
+void table_random_counts(ref_table *table)
+{
+    const size_t stride = MEMORY_MAX / SLOTS, first = random_below(SLOTS), step = 1 + 2 * random_below(4);
+    memset(table, 0, sizeof *table);
+    table->memory_length = MEMORY_MAX;
+    for (size_t i = 0; i < SLOTS; i++) {
+        ref_slot *s = &table->slots[(first + i * step) % SLOTS];
+        if (random_one_in(5)) continue;
+        random_partition(s, i * stride, i * stride + stride - MAX_CAPACITY);
+        random_count(s);
+    }
+}
+
 /* ---- damaged tables */
 
 static uint16_t edge16(void)

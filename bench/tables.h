@@ -6,6 +6,9 @@
 /* Any sound table for a memory of that length, in which every window gets a program. */
 void table_random(ref_table *table, uint8_t *memory, size_t length);
 
+/* A sound table, for which no memory is filled, of slots that have put out many bytes, and often equally many. */
+void table_random_counts(ref_table *table);
+
 /* One thing changed: what comes out may be sound. */
 void table_damage(ref_table *table);
 
