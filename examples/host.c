@@ -46,8 +46,8 @@ static void drain_backlog(void)
 {
     uint8_t backlog[PF_BACKLOG_BYTES];
     unsigned length = pf_count(pf_backlog(table, sizeof table, backlog, sizeof backlog));
-    for (const uint8_t *line = backlog; line + 3 <= backlog + length; line += 3)
-        if (line[1] || line[2]) drain(line[0]);
+    for (unsigned at = 0; at + 3 <= length; at += 3)
+        if (backlog[at + 1] || backlog[at + 2]) drain(backlog[at]);
 }
 
 /* Whether one of them runs, or the second waits while text is left. */

@@ -126,7 +126,8 @@ pf_answer pf_report(const uint8_t *table, size_t table_length, size_t slot, uint
  * of their counts in two bytes; the rest is left. A line:
  *   0 slot; 1 and 2 its count: how many bytes it has put out that were not drained, 0 too. Counts and total have the high byte first.
  * Most bytes come first; of equal counts, the lower slot.
- * pf_count() is the length filled, 3 for each loaded slot and 2: a buffer of that length is long enough, and one of PF_BACKLOG_BYTES always is.
+ * pf_count() is the length filled, three bytes for each loaded slot and two for the total: a buffer of that length is long enough, and one of
+ * PF_BACKLOG_BYTES always is.
  * Nothing is drained, and the memory is not needed.
  * Refused: 1, 16. */
 pf_answer pf_backlog(const uint8_t *table, size_t table_length, uint8_t *buffer, size_t buffer_length);

@@ -22,7 +22,7 @@ repository, and have the documents' words; edges.txt has the glossary's. The lin
     state => CRC                the CRC-32 of 65,536 bytes of memory, and then a line for each loaded slot
     st k: FIELDS                its fields in the order of FIELDS, in decimal
 
-A poke without an unpoke stays. An unpoke takes one poke back: none may follow a group of several.
+A poke without an unpoke stays. An unpoke takes the last poke back, so it must not follow several pokes in a row.
 
 An entry of scripts.bin: ten two-byte numbers, high byte first (kind, line, slot, wanted refusal, a four-byte number, field or
 count, length of the bytes), two of them spare and zero, then the bytes.

@@ -119,6 +119,7 @@ hostReport table k buffer =
 abbrev pub bufferOutcomeOf : BacklogOutcome → BufferOutcome
 bufferOutcomeOf o = bufferOutcome (answerOf (o .refusal) (o .size)) (o .buffer)
 
+-- the backlog of the table that the bytes hold; bytes of another length are no sound table: 1, and the lent buffer is left
 unfoldable pub hostBacklog : List ℕ → List ℕ → BufferOutcome
 hostBacklog table buffer =
     if eqb (length table) tableLength then bufferOutcomeOf (backlogOf (tableFromBytes table) buffer) else bufferOutcome (answerOf 1 0) buffer

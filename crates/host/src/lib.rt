@@ -5,6 +5,7 @@ mod pattern_files;
 mod table_encoding;
 
 pub use bench_run::pf_listing;
+pub use host_calls::pf_backlog;
 pub use host_calls::pf_drain;
 pub use host_calls::pf_feed;
 pub use host_calls::pf_load;

@@ -134,7 +134,7 @@ fn drain_lent_into(
     }
 }
 
-// The backlog, likewise.
+// The backlog into the front of a buffer, which is compared whole.
 fn backlog_into(script: ScriptState, entry: &[u8], buffer: &mut [u8]) -> EntryResult {
     let n = number(entry);
     if buffer.len() < n {
@@ -150,7 +150,7 @@ fn backlog_into(script: ScriptState, entry: &[u8], buffer: &mut [u8]) -> EntryRe
     }
 }
 
-// A call that fills a buffer, which starts as EEh throughout, as the script's.
+// The calls that fill a buffer share one, which starts as EEh throughout, as the script's.
 fn filling_entry(script: ScriptState, memory: &[u8], entry: &[u8]) -> EntryResult {
     let mut buffer = [238u8; 40];
     match kind(entry) {
