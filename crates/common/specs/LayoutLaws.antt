@@ -1,7 +1,8 @@
--- Laws that the checker has shown: a sound layout as facts with names, and back.
+-- Laws that the checker has shown: a sound layout as facts with names, and back; the size of the largest partition.
 use mathlib.Core.Bool.{true}
 use mathlib.Core.Path.{_≡_}
-use Rattle.common.specs.Layout.{layoutSound}
+use native.Mathlib.Omega.{arith}
+use Rattle.common.specs.Layout.{layoutSize, layoutSound}
 use Rattle.common.specs.TestLaws.{OneTo, one-to-fact, one-to-test, all-fact, all-test}
 use Rattle.common.specs.declared.layout.Layout.{Layout}
 
@@ -20,3 +21,11 @@ pub layout-test : (l : Layout) → LayoutSound l → layoutSound l ≡ true
 unfolding layoutSound
 layout-test l f =
     all-test _ (one-to-test _ 32768 (f .window), (one-to-test _ 4096 (f .input), (one-to-test _ 4096 (f .output), tt)))
+
+-- a window of 32,768 bytes and two capacities of 4,096
+pub layout-most : (l : Layout) → LayoutSound l → OneTo (layoutSize l) 40960
+layout-most l f =
+    record {
+      some = omega (arith, f .window .some);
+      fits = omega (arith, f .window .fits, f .input .fits, f .output .fits);
+    }

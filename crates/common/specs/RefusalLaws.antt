@@ -14,6 +14,11 @@ abbrev pub NoneHolds : List Condition → Type 0
 NoneHolds [] = Unit {0}
 NoneHolds (k ∷ ks) = (k .holds ≡ false) × NoneHolds ks
 
+-- something holds of each number of the list
+abbrev pub EachNumber : (ℕ → Type 0) → List Condition → Type 0
+EachNumber P [] = Unit {0}
+EachNumber P (k ∷ ks) = P (k .number) × EachNumber P ks
+
 module _ {A : Type 0} (refused : ℕ → A) where
   -- then the answer is the one behind the list
   pub none-unless : (ks : List Condition) (a : A) → NoneHolds ks → unless refused ks a ≡ a
@@ -42,6 +47,16 @@ module _ {A : Type 0} (refused : ℕ → A) where
           → (if c then refused (k .number) else unless refused ks b) ≡ z
       go true e further = e
       go false e further = further e
+
+  -- what holds of each refusal by a number of the list, and of the answer behind the list, holds of the answer
+  pub unless-holds : (P : A → Type 0) (ks : List Condition) (a : A) → EachNumber (λ n. P (refused n)) ks → P a → P (unless refused ks a)
+  unfolding unless if_then_else_
+  unless-holds P [] a each last = last
+  unless-holds P (k ∷ ks) a each last = go (k .holds) (unless-holds P ks a (each .1) last)
+    where
+      go : (b : Bool) → P (unless refused ks a) → P (if b then refused (k .number) else unless refused ks a)
+      go true further = each .0
+      go false further = further
 
 -- ---- numbers that refuse
 
@@ -99,3 +114,13 @@ refused-by-front ks more h {n} e some = sym (refusal-parts ks more h ∙ rw (←
 pub left-to-rest : (ks more : List Condition) → NoneGivesZero ks → {n : ℕ} → n ≡ refusalBy ks → n ≡ 0 → refusalBy (ks ++ more) ≡ refusalBy more
 unfolding if_then_else_
 left-to-rest ks more h {n} e none = refusal-parts ks more h ∙ rw (← e, none)
+
+-- conditions of which none holds, behind others, change nothing
+pub none-behind : (ks more : List Condition) → NoneHolds more → refusalBy (ks ++ more) ≡ refusalBy ks
+unfolding refusalBy unless if_then_else_
+none-behind [] more h = none-unless (λ n. n) more 0 h
+none-behind (k ∷ ks) more h = go (k .holds) (none-behind ks more h)
+  where
+    go : (b : Bool) → refusalBy (ks ++ more) ≡ refusalBy ks → (if b then k .number else refusalBy (ks ++ more)) ≡ (if b then k .number else refusalBy ks)
+    go true further = refl
+    go false further = further

@@ -11,10 +11,12 @@ pub struct Layout {
 }
 
 impl Layout {
-    // The largest window and the largest capacity.
+    // The largest window and the largest capacity; the size of the largest partition, which has both.
     pub const MAX_WINDOW: u16 = 32768;
 
     pub const MAX_CAPACITY: u16 = 4096;
+
+    pub const MAX_SIZE: usize = 40960;
 
     // How many bytes the whole partition has.
     pub fn size(self) -> usize

@@ -13,13 +13,14 @@ use Rattle.common.specs.declared.places.Location.{Location}
 use Rattle.slices.specs.SliceLaws.{copied-front}
 use Rattle.slices.specs.Slices.{copied}
 use Rattle.supervisor.specs.ChangeLaws.{drain-accepted, load-far}
-use Rattle.supervisor.specs.Calls.{Call, change, load, drain, report, Outcome, outcome, outcomeOf, refusal, afterCall, drainedCount, drainedBuffer, queryRefusal, reportOf, backlogOutcome, backlogOf}
+use Rattle.supervisor.specs.Calls.{Call, change, load, drain, report, Outcome, outcome, outcomeOf, refusal, afterCall, drainedCount, drainedBuffer, queryRefusal, reportOf, backlogOutcome, backlogOf, fitOf}
 use Rattle.supervisor.specs.ConditionLaws.{HoldsPattern}
 use Rattle.supervisor.specs.System.{System, system, slotOf}
 use Rattle.supervisor.specs.Table.{newRefusal, newTable}
+use Rattle.supervisor.specs.declared.fit_query.FitAnswer.{FitAnswer}
 use Rattle.supervisor.specs.declared.reported.Report.{Report}
 use Rattle.supervisor.specs.declared.table.Table.{Table}
-use Rattle.host.specs.HostCalls.{answerOf, lentSystem, tableBytesAfter, bufferOutcome, hostNew, hostBuffers, hostOutcome, hostAfterCall, hostOutcomeOf, hostDrainedBuffer, reportBytes, reportLength, hostReportRefusal, hostReport, bufferOutcomeOf, hostBacklog}
+use Rattle.host.specs.HostCalls.{answerOf, lentSystem, tableBytesAfter, bufferOutcome, hostNew, hostBuffers, hostOutcome, hostAfterCall, hostOutcomeOf, hostDrainedBuffer, reportBytes, reportLength, hostReportRefusal, hostReport, bufferOutcomeOf, hostBacklog, answerOfFit, hostFit}
 use Rattle.host.specs.TableEncoding.{tableFromBytes, tableLength}
 use Rattle.common.specs.ConditionDefinitions.{condition-definitions}
 
@@ -149,6 +150,18 @@ pub backlog-made : (table buffer : List ℕ) (a n size : ℕ) (b : List ℕ) (be
 unfolding hostBacklog if_then_else_
 backlog-made table buffer a n size b before whole decoded made answer =
     rw (eq-eqb (length table) tableLength whole, answer) (ap bufferOutcomeOf (made ∙ ap (λ (t : Table). backlogOf t buffer) decoded))
+
+-- ---- a fit
+
+pub fit-other : (table : List ℕ) (size a : ℕ) → (length table ≡ tableLength → ⊥) → a ≡ answerOf 1 0 → a ≡ hostFit table size
+unfolding hostFit if_then_else_
+fit-other table size a h e = rw (ne-eqb (length table) tableLength h) e
+
+pub fit-made : (table : List ℕ) (size a : ℕ) (before : Table) (found : FitAnswer) → length table ≡ tableLength → before ≡ tableFromBytes table
+    → found ≡ fitOf before size → a ≡ answerOfFit found → a ≡ hostFit table size
+unfolding hostFit if_then_else_
+fit-made table size a before found whole decoded made answer =
+    rw (eq-eqb (length table) tableLength whole) (answer ∙ ap answerOfFit (made ∙ ap (λ (t : Table). fitOf t size) decoded))
 
 -- ---- a new table
 

@@ -7,9 +7,10 @@ use lib.Dec.{eqb, ltb}
 use lib.ListN.{length, drop}
 use Rattle.common.specs.Choice.{if_then_else_}
 use Rattle.common.specs.Refusals.{_gives_, refusalBy}
-use Rattle.supervisor.specs.Calls.{Call, report, refusal, afterCall, drainedBuffer, queryRefusal, reportOf, BacklogOutcome, backlogOf}
+use Rattle.supervisor.specs.Calls.{Call, report, refusal, afterCall, drainedBuffer, queryRefusal, reportOf, BacklogOutcome, backlogOf, fitOf}
 use Rattle.supervisor.specs.System.{System, system}
 use Rattle.supervisor.specs.Table.{newRefusal, newTable}
+use Rattle.supervisor.specs.declared.fit_query.FitAnswer.{FitAnswer}
 use Rattle.supervisor.specs.declared.reported.Report.{Report}
 use Rattle.supervisor.specs.declared.table.Table.{Table}
 use Rattle.slices.specs.Numbers.{u16Bytes}
@@ -123,3 +124,13 @@ bufferOutcomeOf o = bufferOutcome (answerOf (o .refusal) (o .size)) (o .buffer)
 unfoldable pub hostBacklog : List ℕ → List ℕ → BufferOutcome
 hostBacklog table buffer =
     if eqb (length table) tableLength then bufferOutcomeOf (backlogOf (tableFromBytes table) buffer) else bufferOutcome (answerOf 1 0) buffer
+
+-- ---- a fit
+
+-- the count is the start
+abbrev pub answerOfFit : FitAnswer → ℕ
+answerOfFit a = answerOf (a .refusal) (a .location .0)
+
+-- the fit of the table that the bytes hold; bytes of another length are no sound table: 1
+unfoldable pub hostFit : List ℕ → ℕ → ℕ
+hostFit table size = if eqb (length table) tableLength then answerOfFit (fitOf (tableFromBytes table) size) else answerOf 1 0

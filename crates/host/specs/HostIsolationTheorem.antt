@@ -11,13 +11,14 @@ use lib.ListN.{length, getD, set, length-set}
 use Rattle.common.specs.Choice.{if_then_else_}
 use Rattle.common.specs.Repetition.{times}
 use Rattle.cpu.specs.MachineLaws.{times-shaped}
-use Rattle.supervisor.specs.Calls.{Change, load, unload, feed, drain, Query, Call, change, run, query, refusal, patchOf, afterAccepted, afterCall}
+use Rattle.supervisor.specs.Calls.{Change, load, unload, feed, drain, Call, change, run, query, refusal, patchOf, afterAccepted, afterCall}
 use Rattle.supervisor.specs.Events.{Event, call, write, afterEvent, afterEvents}
 use Rattle.supervisor.specs.System.{System, system, slotOf, patched, machineIn}
 use Rattle.supervisor.specs.Table.{noSlot, slotAt, withSlot}
 use Rattle.supervisor.specs.Running.{afterQuantum, slotQuantum, slotQuanta, afterRun}
 use Rattle.supervisor.specs.Sound.{tableSound}
 use Rattle.supervisor.specs.IsolationTheorem.{isolation}
+use Rattle.supervisor.specs.OutcomeLaws.{query-leaves}
 use Rattle.supervisor.specs.declared.table.Slot.{Slot}
 use Rattle.supervisor.specs.declared.table.Table.{Table}
 use Rattle.host.specs.HostCalls.{tableBytesAfter, HostBuffers, systemOf, hostAfterCall}
@@ -102,15 +103,6 @@ call-holds c h whole = rw (eq-eqb (length (h .table)) tableLength whole) (go (eq
         let t = accepted-shaped c x (table-shaped (h .table)) in
         record { same = ap (λ (z : Table). system z (afterAccepted c x .memory)) (table-decoded (afterAccepted c x .table) t); whole = table-length (afterAccepted c x .table) t }
     go false = record { same = refl; whole = whole }
-
--- a query changes nothing
-query-leaves : (q : Query) (x : System) → afterCall (query q) x ≡ x
-unfolding afterCall afterAccepted if_then_else_
-query-leaves q x = go (eqb (refusal (query q) x) 0)
-  where
-    go : (b : Bool) → (if b then x else x) ≡ x
-    go true = refl
-    go false = refl
 
 event-holds : (e : Event) (h : HostBuffers) → length (h .table) ≡ tableLength → HostHolds (hostAfterEvent e h) (afterEvent e (systemOf h))
 unfolding hostAfterEvent afterEvent

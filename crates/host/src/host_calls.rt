@@ -5,7 +5,7 @@ ghost use lib.ListN.{length};
 ghost use Rattle.supervisor.specs.Calls as calls;
 ghost use Rattle.supervisor.specs.Calls.{drainedCount};
 ghost use Rattle.host.specs.TableEncoding.{tableLength};
-ghost use Rattle.host.specs.HostCalls.{answerOf, bufferOutcome, tableBytesAfter, hostBuffers, hostOutcome, hostDrainedBuffer, hostNew, hostOutcomeOf, hostReport, hostBacklog, lentSystem, reportBytes};
+ghost use Rattle.host.specs.HostCalls.{answerOf, bufferOutcome, tableBytesAfter, hostBuffers, hostOutcome, hostDrainedBuffer, hostNew, hostOutcomeOf, hostReport, hostBacklog, hostFit, lentSystem, reportBytes};
 use crate::table_encoding::TABLE_LENGTH;
 use crate::table_encoding::decode_table;
 use crate::table_encoding::put_table;
@@ -197,4 +197,17 @@ pub extern "C" fn pf_backlog(table: &[u8], buffer: &mut [u8]) -> u32
     }
     let filled = supervisor::backlog(decode_table(table), buffer);
     answer(filled.refusal, filled.length as u16)
+}
+
+// Where a partition of that size fits best. The count is the start.
+#[no_mangle]
+pub extern "C" fn pf_fit(table: &[u8], size: usize) -> u32
+    ensures { λ r. ⌜ r ≡ hostFit (now (table .entry)) size ⌝ }
+{
+    if table.len() != TABLE_LENGTH {
+        return answer(1, 0);
+    }
+    let found = supervisor::fit(decode_table(table), size);
+    let location = found.location;
+    answer(found.refusal, location.0 as u16)
 }

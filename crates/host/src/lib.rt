@@ -8,6 +8,7 @@ pub use bench_run::pf_listing;
 pub use host_calls::pf_backlog;
 pub use host_calls::pf_drain;
 pub use host_calls::pf_feed;
+pub use host_calls::pf_fit;
 pub use host_calls::pf_load;
 pub use host_calls::pf_new;
 pub use host_calls::pf_report;

@@ -14,7 +14,7 @@ use Rattle.pattern.specs.Frame.{frameLength, bodyLength, bodyOf, recordL
 use Rattle.pattern.specs.Image.{endsInZero}
 use Rattle.pattern.specs.Reader.{fromParameters, fromCode, fromInput, fromEnd, formIn, boardIn, parametersIn, parametersOf, versionLength, versionConditions, parametersConditions, codeConditions, inputConditions, endConditions, readOf, readRefusal, ifAccepted, codeBodyOf, inputBodyOf, codeOffset, inputOffset}
 use Rattle.common.specs.Refusals.{Condition, unless}
-use Rattle.common.specs.RefusalLaws.{NoneHolds, NoneGivesZero, none-unless, unless-none}
+use Rattle.common.specs.RefusalLaws.{EachNumber, NoneHolds, NoneGivesZero, none-unless, unless-holds, unless-none}
 use Rattle.slices.specs.Slices.{partOf}
 use Rattle.pattern.specs.ParameterLaws.{InRange, range-fact}
 use Rattle.pattern.specs.FrameLaws.{FrameHolds, has-frame-fact, has-frame-of-length-fact, frame-body-length}
@@ -236,3 +236,16 @@ read-zero s e =
     let i = unless-zero (inputConditions (parametersOf s) (fromInput s)) _ (λ z. omega arith, (λ z. omega arith, tt)) (c .1) in
     let x = unless-zero (endConditions (fromEnd s)) _ (λ z. omega arith, (λ z. omega arith, tt)) (i .1) in
     v .0 ∙ p .0 ∙ c .0 ∙ i .0 ∙ x .0
+
+-- a refusal's number is at most 11
+pub read-most : (s : List ℕ) → readRefusal (readOf s) ≤ 11
+unfolding readOf versionConditions parametersConditions codeConditions inputConditions endConditions
+read-most s =
+    most (versionConditions s) _ (omega arith, (omega arith, (omega arith, tt)))
+    (most (parametersConditions (formIn s) (fromParameters s)) _ (omega arith, (omega arith, tt))
+    (most (codeConditions (parametersOf s) (fromCode s)) _ (omega arith, (omega arith, (omega arith, tt)))
+    (most (inputConditions (parametersOf s) (fromInput s)) _ (omega arith, (omega arith, tt))
+    (most (endConditions (fromEnd s)) _ (omega arith, (omega arith, tt)) (omega arith)))))
+  where
+    most : (ks : List Condition) (a : ReadResult) → EachNumber (λ n. n ≤ 11) ks → readRefusal a ≤ 11 → readRefusal (unless Refused ks a) ≤ 11
+    most ks a each last = unless-holds Refused (λ r. readRefusal r ≤ 11) ks a each last

@@ -6,3 +6,4 @@ pub mod LoadingLaws
 pub mod RunningLaws
 pub mod InsertionLaws
 pub mod BacklogLineLaws
+pub mod ExtentListLaws

@@ -18,7 +18,9 @@ use Rattle.supervisor.specs.Unloading.{unloadPatch}
 use Rattle.supervisor.specs.Running.{afterRun}
 use Rattle.supervisor.specs.Reporting.{reportedPsu}
 use Rattle.supervisor.specs.BacklogQuery.{backlogConditions, backlogBytes, backlogLength}
+use Rattle.supervisor.specs.FitQuery.{fitConditions, bestFit}
 use Rattle.supervisor.specs.Table.{slotAt}
+use Rattle.supervisor.specs.declared.fit_query.FitAnswer.{FitAnswer}
 use Rattle.supervisor.specs.declared.reported.Report.{Report}
 use Rattle.supervisor.specs.declared.table.Slot.{Slot}
 use Rattle.supervisor.specs.declared.table.Table.{Table}
@@ -30,10 +32,11 @@ pub data Change : Type 0 where
   feed : (bytes : List ℕ) → Change
   drain : (room : ℕ) → Change
 
--- what is asked of a table; `backlog` is given the length of its buffer
+-- what is asked of a table; `backlog` is given the length of its buffer, and `fit` the size of a partition
 pub data Query : Type 0 where
   report : (slot : ℕ) → Query
   backlog : (room : ℕ) → Query
+  fit : (size : ℕ) → Query
 
 -- a call that takes the table
 pub data Call : Type 0 where
@@ -53,6 +56,7 @@ changeConditions (drain room) x k = systemConditions x ++ loadedSlotConditions (
 unfoldable pub queryConditions : Query → Table → List Condition
 queryConditions (report k) t = tableConditions t ++ loadedSlotConditions t k
 queryConditions (backlog room) t = tableConditions t ++ backlogConditions t room
+queryConditions (fit size) t = tableConditions t ++ fitConditions t size
 
 -- the number that refuses a call, 0 if it is accepted
 unfoldable pub refusal : Call → System → ℕ
@@ -94,7 +98,7 @@ outcome n t memory = record { refusal = n; after = system t memory }
 unfoldable pub outcomeOf : Call → System → Outcome
 outcomeOf c x = record { refusal = refusal c x; after = afterCall c x }
 
--- ---- what a drain, a report and a backlog hand over
+-- ---- what a drain, a report, a backlog and a fit hand over
 
 -- how many bytes are drained, and the buffer afterwards; a refusal drains none and leaves it
 unfoldable pub drainedCount : System → ℕ → ℕ → ℕ
@@ -140,3 +144,11 @@ backlogOf t buffer =
     unless (λ n. backlogOutcome n 0 buffer)
     (queryConditions (backlog (length buffer)) t)
     (backlogOutcome 0 (backlogLength t) (backlogBytes t ++ drop (backlogLength t) buffer))
+
+-- what a fit answers: a refusal, and a start
+abbrev pub fitAnswer : ℕ → ℕ → FitAnswer
+fitAnswer n start = record { refusal = n; location = record { 0 = start } }
+
+-- the start of the best fit for a partition of that size; a refused fit answers 0
+unfoldable pub fitOf : Table → ℕ → FitAnswer
+fitOf t size = unless (λ n. fitAnswer n 0) (queryConditions (fit size) t) (fitAnswer 0 (bestFit t size .start))

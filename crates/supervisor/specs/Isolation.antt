@@ -1,9 +1,8 @@
 -- Definitions that must be believed: document 01's demand 3, as one statement about a list of events
 -- (document 01, "The lone 2650 of demand 3"). IsolationTheorem.antt proves it.
 use Prim.Native.Nat.{_*_, _<_, ℕ}
-use lib.Dec.{leb, ltb}
 use lib.ListN.{getD}
-use mathlib.Core.Bool.{Bool, _&&_, false, not, true}
+use mathlib.Core.Bool.{false, true}
 use mathlib.Core.List.{List, [], _∷_}
 use mathlib.Core.Logic.{_≢_}
 use mathlib.Core.Path.{_≡_}
@@ -13,12 +12,7 @@ use Rattle.supervisor.specs.Calls.{change, query, refusal, run}
 use Rattle.supervisor.specs.Events.{Event, afterEvent, afterEvents, call, roundsOfEvents, write}
 use Rattle.supervisor.specs.Sound.{tableSound}
 use Rattle.supervisor.specs.System.{System, machineIn, slotOf}
-use Rattle.supervisor.specs.Table.{isEmpty, partitionEnd}
-use Rattle.supervisor.specs.declared.table.Slot.{Slot}
-
--- byte i lies in the partition of the slot
-unfoldable pub isInPartition : Slot → ℕ → Bool
-isInPartition s i = not (isEmpty s) && leb (s .partition .base .0) i && ltb i (partitionEnd (s .partition))
+use Rattle.supervisor.specs.Table.{InNoPartition, isEmpty, isInPartition}
 
 -- slot k is left alone: no change is accepted at it, and its partition is not written from outside
 unfoldable pub LeftAlone : ℕ → Event → System → Type 0
@@ -32,10 +26,6 @@ unfoldable pub LeftAloneThroughout : ℕ → List Event → System → Type 0
 LeftAloneThroughout k [] x = Unit {0}
 LeftAloneThroughout k (e ∷ rest) x = LeftAlone k e x × LeftAloneThroughout k rest (afterEvent e x)
 
--- byte i is in no partition
-unfoldable pub InNoPartition : ℕ → System → Type 0
-InNoPartition i x = (k : ℕ) → k < 8 → isInPartition (slotOf x k) i ≡ false
-
 -- an event that does not write byte i from outside
 unfoldable pub NotWritten : ℕ → Event → Type 0
 NotWritten i (call c) = Unit {0}
@@ -43,8 +33,8 @@ NotWritten i (write j b) = j ≢ i
 
 -- byte i is in no partition before the list and after each event, and no event writes it from outside
 unfoldable pub InNoPartitionNorWrittenThroughout : ℕ → List Event → System → Type 0
-InNoPartitionNorWrittenThroughout i [] x = InNoPartition i x
-InNoPartitionNorWrittenThroughout i (e ∷ rest) x = InNoPartition i x × NotWritten i e × InNoPartitionNorWrittenThroughout i rest (afterEvent e x)
+InNoPartitionNorWrittenThroughout i [] x = InNoPartition i (x .table)
+InNoPartitionNorWrittenThroughout i (e ∷ rest) x = InNoPartition i (x .table) × NotWritten i e × InNoPartitionNorWrittenThroughout i rest (afterEvent e x)
 
 -- the table is sound before the list and after each event
 unfoldable pub SoundThroughout : List Event → System → Type 0

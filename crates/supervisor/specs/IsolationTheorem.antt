@@ -21,14 +21,15 @@ use Rattle.supervisor.specs.Calls.{Call, change, run, query, refusal, af
 use Rattle.supervisor.specs.ChangeLaws.{change-fits}
 use Rattle.supervisor.specs.ConditionLaws.{SoundSystem}
 use Rattle.supervisor.specs.Events.{Event, call, write, afterEvent, afterEvents, roundsOfCall, roundsOfEvent, roundsOfEvents}
-use Rattle.supervisor.specs.Isolation.{LeftAlone, LeftAloneThroughout, InNoPartition, NotWritten, InNoPartitionNorWrittenThroughout, SoundThroughout, RunsAccepted, Isolation}
+use Rattle.supervisor.specs.Isolation.{LeftAlone, LeftAloneThroughout, NotWritten, InNoPartitionNorWrittenThroughout, SoundThroughout, RunsAccepted, Isolation}
 use Rattle.supervisor.specs.System.{System, slotOf, machineIn}
 use Rattle.supervisor.specs.Conditions.{tableConditions, systemConditions}
 use Rattle.supervisor.specs.Running.{afterRun}
-use Rattle.supervisor.specs.PatchLaws.{slotMachine, OutsidePartition, outside-partition, KeepsOthers, patch-keeps}
+use Rattle.supervisor.specs.PartitionByteLaws.{OutsidePartition, outside-partition}
+use Rattle.supervisor.specs.PatchLaws.{slotMachine, KeepsOthers, patch-keeps}
 use Rattle.supervisor.specs.RoundLaws.{DiffersByRunning, rounds-running, rounds-machine}
 use Rattle.supervisor.specs.SoundLaws.{table-fact, table-test}
-use Rattle.supervisor.specs.Table.{isEmpty, partitionEnd}
+use Rattle.supervisor.specs.Table.{InNoPartition, isEmpty, partitionEnd}
 use Rattle.supervisor.specs.Sound.{tableSound}
 use Rattle.supervisor.specs.declared.table.Partition.{Partition}
 use Rattle.supervisor.specs.declared.table.Slot.{Slot}
@@ -44,7 +45,7 @@ record RunsAlone (j n : ℕ) (x y : System) : Type 0 where
 record EventIsolates (e : Event) (p : ℕ) (x y : System) : Type 0 where
   system : SoundSystem y
   slot : (j : ℕ) → j < 8 → isEmpty (slotOf x j) ≡ false → LeftAlone j e x → RunsAlone j (p * slotOf x j .partition .quantum) x y
-  bytes : (i : ℕ) → NotWritten i e → InNoPartition i x → InNoPartition i y → getD (y .memory) i 0 ≡ getD (x .memory) i 0
+  bytes : (i : ℕ) → NotWritten i e → InNoPartition i (x .table) → InNoPartition i (y .table) → getD (y .memory) i 0 ≡ getD (x .memory) i 0
 
 -- nothing happened
 runs-alone-none : (j : ℕ) (x : System) → isEmpty (slotOf x j) ≡ false → RunsAlone j 0 x x
@@ -157,7 +158,7 @@ byte-after-events (e ∷ rest) x g i h =
     let f = event-isolates e x g in
     byte-after-events rest (afterEvent e x) (f .system) i (h .2) ∙ f .bytes i (h .1) (h .0) (first rest (afterEvent e x) (h .2))
   where
-    first : (events : List Event) (y : System) → InNoPartitionNorWrittenThroughout i events y → InNoPartition i y
+    first : (events : List Event) (y : System) → InNoPartitionNorWrittenThroughout i events y → InNoPartition i (y .table)
     first [] y h = h
     first (d ∷ events) y h = h .0
 

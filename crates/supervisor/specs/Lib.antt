@@ -12,14 +12,20 @@ pub mod Draining
 pub mod Running
 pub mod Reporting
 pub mod BacklogQuery
+pub mod Extents
+pub mod FitQuery
 pub mod Calls
 pub mod Events
 pub mod Isolation
 pub mod BacklogFilled
+pub mod FreeExtentsListed
+pub mod FitFound
 -- Names for lists of definitions.
 pub mod CallDefinitions
--- Laws that the checker has shown: IsolationTheorem is demand 3, BacklogTheorem what a backlog fills; the others carry these.
+-- Laws that the checker has shown: IsolationTheorem is demand 3, BacklogTheorem what a backlog fills, ExtentsTheorem what the free extents
+-- are, FitTheorem what a fit finds; the others carry these.
 pub mod SoundLaws
+pub mod PartitionByteLaws
 pub mod ConditionLaws
 pub mod SlotMachineLaws
 pub mod PatchLaws
@@ -30,3 +36,8 @@ pub mod IsolationTheorem
 pub mod BacklogOrderLaws
 pub mod BacklogLaws
 pub mod BacklogTheorem
+pub mod ExtentLaws
+pub mod ExtentTotalLaws
+pub mod ExtentsTheorem
+pub mod FitLaws
+pub mod FitTheorem

@@ -1,10 +1,11 @@
--- Laws that the checker has shown: what a refused and an accepted call leave, for every call alike.
+-- Laws that the checker has shown: what a refused and an accepted call leave, for every call alike, and that a query changes nothing.
 use Prim.Native.Nat.{ℕ}
+use mathlib.Core.Bool.{Bool, true, false}
 use mathlib.Core.List.{List}
-use mathlib.Core.Path.{_≡_, sym, _∙_}
+use mathlib.Core.Path.{_≡_, refl, sym, _∙_}
 use borrow.Author.Tests.{ne-eqb}
 use Rattle.common.specs.Choice.{if_then_else_}
-use Rattle.supervisor.specs.Calls.{Call, refusal, afterAccepted, afterCall, outcome, outcomeOf}
+use Rattle.supervisor.specs.Calls.{Query, Call, query, refusal, isAccepted, afterAccepted, afterCall, outcome, outcomeOf}
 use Rattle.supervisor.specs.System.{System, system}
 use Rattle.supervisor.specs.declared.table.Table.{Table}
 
@@ -16,3 +17,11 @@ pub accepted-outcome : (c : Call) (x : System) (t : Table) (memory : List ℕ) {
     → outcome 0 t memory ≡ outcomeOf c x
 unfolding outcomeOf afterCall if_then_else_
 accepted-outcome c x t memory e none h = let z : refusal c x ≡ 0 = sym e ∙ none in rw (z, ← h)
+
+pub query-leaves : (q : Query) (x : System) → afterCall (query q) x ≡ x
+unfolding afterCall afterAccepted if_then_else_
+query-leaves q x = go (isAccepted (query q) x)
+  where
+    go : (b : Bool) → (if b then x else x) ≡ x
+    go true = refl
+    go false = refl

@@ -1,14 +1,11 @@
 -- Laws that the checker has shown: a patch of slot k that keeps to its partition leaves the table sound, the other slots with their
 -- machines, and the bytes in no partition.
-use mathlib.Core.Bool.{true, false, not, false≢true, _&&_}
+use mathlib.Core.Bool.{true, false}
 use mathlib.Core.List.{List}
 use mathlib.Core.Logic.{_≢_, _⊎_, inl, inr}
 use mathlib.Core.Path.{_≡_, sym, ap, _∙_, subst}
 use Prim.Native.Nat.{ℕ, _+_, _≤_, _<_}
-use native.Mathlib.Decide.{decLt, decLe}
 use native.Mathlib.Omega.{arith}
-use borrow.Author.Tests.{le-leb, lt-ltb}
-use lib.Dec.{leb}
 use lib.ListN.{length, getD}
 use Rattle.common.specs.declared.places.Location.{Location}
 use Rattle.cpu.specs.Machine.{Machine}
@@ -16,32 +13,18 @@ use Rattle.cpu.specs.declared.state.State.{State}
 use Rattle.slices.specs.SliceLaws.{copied-length, byte-before-copy, byte-after-copy}
 use Rattle.slices.specs.Slices.{copied}
 use Rattle.supervisor.specs.ConditionLaws.{SoundSystem, HoldsPattern}
-use Rattle.supervisor.specs.Isolation.{InNoPartition, isInPartition}
+use Rattle.supervisor.specs.PartitionByteLaws.{OutsidePartition, outside-partition}
 use Rattle.supervisor.specs.SlotMachineLaws.{machine-untouched}
 use Rattle.supervisor.specs.System.{System, slotOf, Patch, patch, patched, machineIn}
 use Rattle.supervisor.specs.SoundLaws.{StateSound, Loaded, Unloaded, slot-fact, slot-test, loaded-live, Apart, apart-cases, with-slot-same, with-slot-other, with-slot-size, with-slot-sound}
-use Rattle.supervisor.specs.Table.{slotWithState, isEmpty, partitionEnd}
+use Rattle.supervisor.specs.Table.{InNoPartition, slotWithState, isEmpty, isInPartition, partitionEnd}
 use Rattle.supervisor.specs.Sound.{slotSound}
-use Rattle.common.specs.TestLaws.{and-test}
 use Rattle.supervisor.specs.declared.table.Partition.{Partition}
 use Rattle.supervisor.specs.declared.table.Slot.{Slot}
 
 -- the machine of slot k
 abbrev pub slotMachine : ℕ → System → Machine
 slotMachine k x = machineIn (slotOf x k) (x .memory)
-
-abbrev pub OutsidePartition : Partition → ℕ → Type 0
-OutsidePartition p i = (i < p .base .0) ⊎ (partitionEnd p ≤ i)
-
-pub outside-partition : (s : Slot) (i : ℕ) → isInPartition s i ≡ false → isEmpty s ≡ false → OutsidePartition (s .partition) i
-unfolding isInPartition
-outside-partition s i h m = go (decLt i (s .partition .base .0)) (decLe (partitionEnd (s .partition)) i)
-  where
-    go : Dec (i < s .partition .base .0) → Dec (partitionEnd (s .partition) ≤ i) → OutsidePartition (s .partition) i
-    go (yes p) q = inl p
-    go (no p) (yes q) = inr q
-    go (no p) (no q) =
-        absurd (false≢true (sym h ∙ and-test (not (isEmpty s) && leb (s .partition .base .0) i) _ (and-test _ _ (ap not m) (le-leb (s .partition .base .0) i (omega arith))) (lt-ltb i (partitionEnd (s .partition)) (omega arith))))
 
 -- the partition of each slot, an empty one too, is inside the memory
 pub slot-inside : (x : System) → SoundSystem x → (k : ℕ) → k < 8 → partitionEnd (slotOf x k .partition) ≤ length (x .memory)
@@ -71,7 +54,7 @@ pub record KeepsOthers (k : ℕ) (x y : System) : Type 0 where
   pub system : SoundSystem y
   pub slots : (j : ℕ) → j ≢ k → slotOf y j ≡ slotOf x j
   pub machines : (j : ℕ) → j < 8 → j ≢ k → slotMachine j y ≡ slotMachine j x
-  pub bytes : (i : ℕ) → InNoPartition i x → InNoPartition i y → getD (y .memory) i 0 ≡ getD (x .memory) i 0
+  pub bytes : (i : ℕ) → InNoPartition i (x .table) → InNoPartition i (y .table) → getD (y .memory) i 0 ≡ getD (x .memory) i 0
 
 module _ (x : System) (g : SoundSystem x) (k : ℕ) (p : Patch) where
   pub patched-slot : k < 8 → slotOf (patched x k p) k ≡ p .slot
@@ -119,7 +102,7 @@ module _ (x : System) (g : SoundSystem x) (k : ℕ) (p : Patch) where
       clear j q ne (inl h) = written-apart (slotOf x k) h (slotOf x j .partition) (g .table .disjoint j k q (f .slot) ne)
       clear j q ne (inr h) = written-apart (p .slot) h (slotOf x j .partition) (f .clear j q ne)
 
-      bytes : (i : ℕ) → InNoPartition i x → InNoPartition i (patched x k p) → WritesInside (slotOf x k) p ⊎ WritesInside (p .slot) p → getD (copied (x .memory) (p .location .0) (p .bytes)) i 0 ≡ getD (x .memory) i 0
+      bytes : (i : ℕ) → InNoPartition i (x .table) → InNoPartition i (patched x k p .table) → WritesInside (slotOf x k) p ⊎ WritesInside (p .slot) p → getD (copied (x .memory) (p .location .0) (p .bytes)) i 0 ≡ getD (x .memory) i 0
       bytes i h₀ h₁ (inl h) = outside-unwritten (slotOf x k) h i (h₀ k (f .slot))
       bytes i h₀ h₁ (inr h) = outside-unwritten (p .slot) h i (subst (λ (s : Slot). isInPartition s i ≡ false) (patched-slot (f .slot)) (h₁ k (f .slot)))
 

@@ -18,13 +18,12 @@ use Rattle.cpu.specs.RestLaws.{times-rests}
 use Rattle.slices.specs.SliceLaws.{copy-self}
 use Rattle.slices.specs.Slices.{copied}
 use Rattle.supervisor.specs.ConditionLaws.{SoundSystem}
-use Rattle.supervisor.specs.Isolation.{isInPartition, InNoPartition}
 use Rattle.supervisor.specs.SlotMachineLaws.{HasLayout, bytes-length, slot-has-layout, slot-machine-bytes, written-back, machine-sound, state-sound}
 use Rattle.supervisor.specs.System.{System, system, slotOf, patched, machineIn}
 use Rattle.supervisor.specs.Running.{machineBytes, machineAfterQuantum, quantumPatch, slotQuantum, slotQuanta, afterRun}
 use Rattle.supervisor.specs.PatchLaws.{slotMachine, slot-inside, KeepsOthers, patched-slot, patch-keeps, state-fits}
 use Rattle.supervisor.specs.SoundLaws.{StateSound, Loaded, Unloaded, slot-fact, loaded-slot, loaded-live}
-use Rattle.supervisor.specs.Table.{noSlot, slotAt, withSlot, slotWithState, isEmpty, partitionEnd}
+use Rattle.supervisor.specs.Table.{InNoPartition, noSlot, slotAt, withSlot, slotWithState, isEmpty, isInPartition, partitionEnd}
 use Rattle.supervisor.specs.declared.table.Partition.{Partition}
 use Rattle.supervisor.specs.declared.table.Slot.{Slot}
 use Rattle.supervisor.specs.declared.table.Table.{Table}
@@ -34,13 +33,13 @@ pub record DiffersByRunning (x y : System) : Type 0 where
   pub system : SoundSystem y
   pub partitions : (k : ℕ) → slotOf y k .partition ≡ slotOf x k .partition
   pub loaded : (k : ℕ) → isEmpty (slotOf y k) ≡ isEmpty (slotOf x k)
-  pub bytes : (i : ℕ) → InNoPartition i x → getD (y .memory) i 0 ≡ getD (x .memory) i 0
+  pub bytes : (i : ℕ) → InNoPartition i (x .table) → getD (y .memory) i 0 ≡ getD (x .memory) i 0
 
 pub running-refl : (x : System) → SoundSystem x → DiffersByRunning x x
 running-refl x g = record { system = g; partitions = λ k. refl; loaded = λ k. refl; bytes = λ i h. refl }
 
 -- the same bytes are in no partition
-same-in-no-partition : (x y : System) → ((k : ℕ) → slotOf y k .partition ≡ slotOf x k .partition) → ((k : ℕ) → isEmpty (slotOf y k) ≡ isEmpty (slotOf x k)) → (i : ℕ) → InNoPartition i x → InNoPartition i y
+same-in-no-partition : (x y : System) → ((k : ℕ) → slotOf y k .partition ≡ slotOf x k .partition) → ((k : ℕ) → isEmpty (slotOf y k) ≡ isEmpty (slotOf x k)) → (i : ℕ) → InNoPartition i (x .table) → InNoPartition i (y .table)
 unfolding InNoPartition isInPartition
 same-in-no-partition x y p m i h = λ k q. rw (p k, m k) (h k q)
 

@@ -150,6 +150,13 @@ slot-test size s f =
     or-right (isZeroPartition (s .partition) && isZeroState (s .state)) _
     (and-test (partitionSound size (s .partition)) (stateSound (s .partition .layout) (s .state)) (partition-test size (s .partition) (f .partition)) (state-test (s .partition .layout) (s .state) (f .state)))
 
+pub unloaded-slot : (size : ℕ) (s : Slot) → slotSound size s ≡ true → isEmpty s ≡ true → Unloaded s
+unloaded-slot size s h m = go (slot-fact size s h)
+  where
+    go : Unloaded s ⊎ Loaded size s → Unloaded s
+    go (inl u) = u
+    go (inr u) = let l : 1 ≤ s .state .status = u .state .status .some in absurd (omega (arith, eqb-true (s .state .status) 0 m))
+
 pub loaded-slot : (size : ℕ) (s : Slot) → slotSound size s ≡ true → isEmpty s ≡ false → Loaded size s
 loaded-slot size s h m = go (slot-fact size s h)
   where
@@ -173,6 +180,10 @@ apart-sym p q (inr u) = inl u
 pub apart-cases : (p q : Partition) → Apart p q → (partitionEnd p ≤ q .base .0) ⊎ (partitionEnd q ≤ p .base .0)
 unfolding Apart
 apart-cases p q h = h
+
+pub apart-below : (p q : Partition) → partitionEnd p ≤ q .base .0 → Apart p q
+unfolding Apart
+apart-below p q h = inl h
 
 pub apart-behind : (p q : Partition) → partitionEnd q ≤ p .base .0 → Apart p q
 unfolding Apart

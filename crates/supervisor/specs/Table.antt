@@ -1,9 +1,10 @@
--- Definitions that must be believed: slots, partitions, and a new table (document 01, "Floor and bays").
-use Prim.Native.Nat.{_+_, ℕ}
-use lib.Dec.{eqb}
+-- Definitions that must be believed: slots, partitions, which bytes are in one, and a new table (document 01, "Floor and bays").
+use Prim.Native.Nat.{_+_, _<_, ℕ}
+use lib.Dec.{eqb, leb, ltb}
 use lib.ListN.{getD, length, replicate, set}
-use mathlib.Core.Bool.{Bool, not}
+use mathlib.Core.Bool.{Bool, _&&_, false, not}
 use mathlib.Core.List.{[], _∷_}
+use mathlib.Core.Path.{_≡_}
 use Rattle.common.specs.Choice.{if_then_else_}
 use Rattle.common.specs.Layout.{layoutSize}
 use Rattle.common.specs.Ranges.{isOneTo}
@@ -38,9 +39,21 @@ slotWithState s z = record { partition = s .partition; state = z }
 abbrev pub isEmpty : Slot → Bool
 isEmpty s = eqb (s .state .status) 0
 
+-- slot k holds a pattern
+abbrev pub isLoaded : Table → ℕ → Bool
+isLoaded t k = not (isEmpty (slotAt t k))
+
 -- the location behind the last byte of a partition
 abbrev pub partitionEnd : Partition → ℕ
 partitionEnd p = p .base .0 + layoutSize (p .layout)
+
+-- byte i lies in the partition of the slot
+unfoldable pub isInPartition : Slot → ℕ → Bool
+isInPartition s i = not (isEmpty s) && leb (s .partition .base .0) i && ltb i (partitionEnd (s .partition))
+
+-- byte i lies in the partition of no slot
+unfoldable pub InNoPartition : ℕ → Table → Type 0
+InNoPartition i t = (k : ℕ) → k < 8 → isInPartition (slotAt t k) i ≡ false
 
 -- ---- a new table
 

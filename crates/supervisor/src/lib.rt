@@ -1,8 +1,10 @@
-// Eight slots over one memory: loading, unloading, feeding, draining, running, reporting and the backlog.
+// Eight slots over one memory: loading, unloading, feeding, draining, running, reporting, the backlog, and where a partition fits.
 mod backlog_query;
 mod conditions;
 mod draining;
+mod extents;
 mod feeding;
+mod fit_query;
 mod loading;
 mod location;
 mod reported;
@@ -18,6 +20,8 @@ pub use backlog_query::backlog;
 pub use draining::DrainAnswer;
 pub use draining::drain;
 pub use feeding::feed;
+pub use fit_query::FitAnswer;
+pub use fit_query::fit;
 pub use loading::load;
 pub use reported::Report;
 pub use reporting::report;
