@@ -2,17 +2,26 @@
  *
  *     host FIRST.pat SECOND.pat
  *
- * Both run by turns. The second is fed a text, a few bytes whenever it wants input; what each puts out is printed in hexadecimal, the
- * one with more bytes first. */
+ * Each is loaded where it fits, and both run by turns. The second is fed a text, a few bytes whenever it wants input; what each puts out
+ * is printed in hexadecimal, the one with more bytes first. */
 #include <pattern_floor.h>
 #include <stdio.h>
 #include <string.h>
 
 static uint8_t table[PF_TABLE_BYTES], memory[8192];
 
-static int load(const char *path, size_t slot, size_t location)
+/* What a pattern takes of the memory: window + input + output, which are the first three of its parameters, two bytes each. */
+static size_t partition_size(const uint8_t *parameters)
+{
+    size_t size = 0;
+    for (int i = 0; i < 6; i += 2) size += (size_t)parameters[i] << 8 | parameters[i + 1];
+    return size;
+}
+
+static int load(const char *path, size_t slot)
 {
     static uint8_t file[PF_FILE_MOST + 1];
+    uint8_t parameters[PF_VALUES_BYTES];
     FILE *f = fopen(path, "rb");
     if (!f) {
         perror(path);
@@ -20,9 +29,11 @@ static int load(const char *path, size_t slot, size_t location)
     }
     size_t length = fread(file, 1, sizeof file, f);
     fclose(f);
-    pf_answer loaded = pf_load(table, sizeof table, memory, sizeof memory, slot, location, file, length);
-    if (pf_refusal(loaded)) fprintf(stderr, "%s: refused by %u\n", path, pf_refusal(loaded));
-    return pf_refusal(loaded) == 0;
+    pf_answer answer = pf_read(file, length, parameters, sizeof parameters);
+    if (!pf_refusal(answer)) answer = pf_fit(table, sizeof table, partition_size(parameters));
+    if (!pf_refusal(answer)) answer = pf_load(table, sizeof table, memory, sizeof memory, slot, pf_count(answer), file, length);
+    if (pf_refusal(answer)) fprintf(stderr, "%s: refused by %u\n", path, pf_refusal(answer));
+    return pf_refusal(answer) == 0;
 }
 
 static unsigned status(size_t slot)
@@ -65,7 +76,7 @@ int main(int argc, char **argv)
         return 2;
     }
     pf_new(table, sizeof table, sizeof memory);
-    if (!load(argv[1], 0, 0) || !load(argv[2], 1, 4096)) return 1;
+    if (!load(argv[1], 0) || !load(argv[2], 1)) return 1;
     for (int turn = 0; turn < 1000 && working(text); turn++) {
         pf_run(table, sizeof table, memory, sizeof memory, 30);
         drain_backlog();

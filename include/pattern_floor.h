@@ -10,10 +10,10 @@
  *     overlap one another.
  *   - Two calls may run at the same time on different threads if no buffer that one may write is used by the other.
  *
- * ANSWERS. A pf_answer has the refusal in its upper half, 0 if the call did its work, and a count in its lower half: pf_refusal()
- * and pf_count() take them apart. A refused call has changed no byte of any buffer, and its count is 0. The list at each call has its
- * refusals in the order in which they are tested; the first that holds is the answer. Of a file, 6 to 11 are one step: the reader goes from
- * front to back, and answers the first fault that it meets.
+ * ANSWERS. A pf_answer has the refusal in its upper half, 0 if the call did its work, and a count in its lower half, which for pf_fit is a
+ * location: pf_refusal() and pf_count() take them apart. A refused call has changed no byte of any buffer, and its count is 0. The list at
+ * each call has its refusals in the order in which they are tested; the first that holds is the answer. Of a file, 6 to 11 are one step: the
+ * reader goes from front to back, and answers the first fault that it meets.
  *
  * Each call is proved to end, and to answer and leave what its definition says, for every input; this header gives those definitions in
  * words, and crates/host/specs has them in full.
@@ -48,7 +48,9 @@ enum {
     PF_MEETS = 13,          /* it would meet another pattern's */
     PF_UNREAD = 14,         /* input is still unread: the last that was fed, or the file's first */
     PF_NO_INPUT = 15,       /* no bytes to feed, or more than the input's capacity */
-    PF_SHORT = 16           /* the buffer is too short for what it would be given */
+    PF_SHORT = 16,          /* the buffer is too short for what it would be given */
+    PF_SIZE = 17,           /* the size is 0, or more than PF_PARTITION_MOST */
+    PF_NO_EXTENT = 18       /* no free extent of the memory holds that size */
 };
 
 /* The status of a slot: the first byte of a report. At 3 to 7 the counter is still at the instruction, of which nothing was carried out. */
@@ -73,6 +75,7 @@ enum {
     PF_FILE_LEAST = 31,         /* the shortest and the longest pattern file */
     PF_FILE_MOST = 36895,
     PF_MEMORY_MOST = 65536,
+    PF_PARTITION_MOST = 40960,  /* the largest partition: a window of 32768, input and output of 4096 each */
     PF_LISTING_MEMORY = 40960,
     PF_LISTING_BYTES = 12326    /* the longest text of a listing */
 };
@@ -89,7 +92,7 @@ static inline unsigned pf_count(pf_answer answer) { return (unsigned)(answer & 0
 pf_answer pf_new(uint8_t *table, size_t table_length, size_t memory_length);
 
 /* Loads a pattern file into an empty slot. Its partition starts at `location` and takes window + input + output bytes, all of which are
- * written: the code, the first input, and zeros. The file is not needed afterwards.
+ * written: the code, the first input, and zeros. The file is not needed afterwards. pf_fit tells a location where it fits.
  * Refused: 1, 2, 3, 4, the reader's 6 to 11, 12, 13. */
 pf_answer pf_load(uint8_t *table, size_t table_length, uint8_t *memory, size_t memory_length,
                   size_t slot, size_t location, const uint8_t *file, size_t file_length);
@@ -131,6 +134,15 @@ pf_answer pf_report(const uint8_t *table, size_t table_length, size_t slot, uint
  * Nothing is drained, and the memory is not needed.
  * Refused: 1, 16. */
 pf_answer pf_backlog(const uint8_t *table, size_t table_length, uint8_t *buffer, size_t buffer_length);
+
+/* Tells where a partition fits. `size` is how many bytes it takes: window + input + output, which pf_read gives of a file. A free extent is a
+ * run of bytes in no partition, one or more, that can be lengthened at neither end.
+ * pf_count() is the start of the smallest free extent that has `size` bytes or more; of equally long ones, the lowest start. 0 is a start too:
+ * pf_refusal() tells whether there is one.
+ * A pattern whose partition takes `size` bytes, loaded there into an empty slot by the next call on this table, is never refused by 12 or 13.
+ * Nothing is kept for it: a load in between may take the place. A start is answered even if no slot is empty. The memory is not needed.
+ * Refused: 1, 17, 18. */
+pf_answer pf_fit(const uint8_t *table, size_t table_length, size_t size);
 
 /* ---- Pattern files --------------------------------------------------------------------------------------------------- */
 
