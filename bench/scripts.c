@@ -4,7 +4,7 @@
 #include <string.h>
 
 /* The kinds of entries, numbered as in make_data.py. */
-enum { NEW_SCRIPT, NEW, LEND, POKE, UNPOKE, LOAD, UNLOAD, FEED, DRAIN, RUN, REPORT, STATE, DRAIN_LENT, BACKLOG };
+enum { NEW_SCRIPT, NEW, LEND, POKE, UNPOKE, LOAD, UNLOAD, FEED, DRAIN, RUN, REPORT, STATE, DRAIN_LENT, BACKLOG, FIT };
 
 enum {
     HEADER_LENGTH = 20,     /* the numbers before an entry's bytes */
@@ -12,6 +12,7 @@ enum {
     SLOT_BYTES = 45,
     SLOT_FIELDS = 27,       /* the number behind them, in a poke, is the memory's length */
     REPORT_FIELDS = 11,
+    SIZE_LENGTH = 8,        /* the bytes of a fit: its size */
     UNTOUCHED = 0xEE,       /* what a lent buffer holds before the call */
     BUFFER_ROOM = 64        /* no script lends a longer buffer */
 };
@@ -19,7 +20,7 @@ enum {
 typedef struct {
     unsigned kind, line, slot, refusal;
     uint32_t number;        /* a location, the length of a memory or a buffer, rounds, a field's value or a check sum */
-    unsigned field;         /* or the count that is wanted */
+    unsigned field;         /* or the count, of a fit the start, that is wanted */
     size_t length;
     const uint8_t *bytes;
 } entry;
@@ -67,9 +68,9 @@ static const field report_fields[REPORT_FIELDS] = {
     { 3, 1 }, { 4, 1 }, { 5, 1 }, { 6, 1 }, { 7, 1 }, { 8, 1 }, { 9, 1 }            /* registers */
 };
 
-static uint32_t number_at(const uint8_t *p, unsigned width)
+static uint64_t number_at(const uint8_t *p, unsigned width)
 {
-    uint32_t n = 0;
+    uint64_t n = 0;
     while (width--) n = n << 8 | *p++;
     return n;
 }
@@ -147,7 +148,8 @@ static pf_answer make_call(const entry *e)
     case RUN: return pf_run(TABLE, MEMORY, (uint16_t)e->number);
     case REPORT: return pf_report(TABLE, e->slot, buffer, PF_REPORT_BYTES);
     case DRAIN_LENT: return drain_lent(e->slot, e->number);
-    default: return pf_backlog(TABLE, buffer, e->number);
+    case BACKLOG: return pf_backlog(TABLE, buffer, e->number);
+    default: return pf_fit(TABLE, (size_t)number_at(e->bytes, SIZE_LENGTH));
     }
 }
 
@@ -171,10 +173,11 @@ static int buffer_agrees(const entry *e)
 /* Whether there is such a call, and room for what it is lent. */
 static int can_be_made(const entry *e)
 {
-    if (e->kind > BACKLOG || lent_length > sizeof memory) return 0;
+    if (e->kind > FIT || lent_length > sizeof memory) return 0;
     if (e->kind == DRAIN_LENT && e->slot >= PF_SLOTS) return 0;
     if (e->kind == RUN) return e->number <= UINT16_MAX;
     if (e->kind == REPORT) return e->length == REPORT_FIELDS * 2;
+    if (e->kind == FIT) return e->length == SIZE_LENGTH;
     return !fills_buffer(e) || (e->number <= BUFFER_ROOM && e->length == e->number);
 }
 

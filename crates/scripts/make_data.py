@@ -1,10 +1,10 @@
 #!/usr/bin/env python3
 """Makes crates/scripts/data/scripts.bin of scripts of calls with what each call must answer.
 
-usage: make_data.py scripts.bin FILE..    (floor.txt, u1.txt and edges.txt)
+usage: make_data.py scripts.bin FILE..    (floor.txt, u1.txt, u2.txt and edges.txt)
 
-The scripts of floor.txt came with document 01, those of u1.txt with document 02's request U1. These two are not in this
-repository, and have the documents' words; edges.txt has the glossary's. The lines of a script:
+The scripts of floor.txt came with document 01, those of u1.txt and u2.txt with document 02's requests U1 and U2. These three
+are not in this repository, and have the documents' words; edges.txt has the glossary's. The lines of a script:
 
     S n                         a new script: table and memory all zero
     new LENGTH => n             the table handed back replaces the table, also when refused
@@ -19,17 +19,19 @@ repository, and have the documents' words; edges.txt has the glossary's. The lin
     run ROUNDS => n
     report SLOT => n [status counter psu psl, and the seven registers]
     backlog LENGTH => n FILLED HEX      the buffer starts all EE; HEX is all of it afterwards
+    fit SIZE => n START         any size below 2^64; the start is 0 when refused
     state => CRC                the CRC-32 of 65,536 bytes of memory, and then a line for each loaded slot
     st k: FIELDS                its fields in the order of FIELDS, in decimal
 
 A poke without an unpoke stays. An unpoke takes the last poke back, so it must not follow several pokes in a row.
 
 An entry of scripts.bin: ten two-byte numbers, high byte first (kind, line, slot, wanted refusal, a four-byte number, field or
-count, length of the bytes), two of them spare and zero, then the bytes.
+count, length of the bytes), two of them spare and zero, then the bytes. Of a fit the count is the start, and the bytes are the
+size: eight of them, high byte first.
 """
 import sys
 
-NEW_SCRIPT, NEW, LEND, POKE, UNPOKE, LOAD, UNLOAD, FEED, DRAIN, RUN, REPORT, STATE, DRAIN_LENT, BACKLOG = range(14)
+NEW_SCRIPT, NEW, LEND, POKE, UNPOKE, LOAD, UNLOAD, FEED, DRAIN, RUN, REPORT, STATE, DRAIN_LENT, BACKLOG, FIT = range(15)
 FIELDS = ("base window input output quantum status pc psu psl r0 b0 b1 b2 b3 b4 b5 "
           "ras0 ras1 ras2 ras3 ras4 ras5 ras6 ras7 filled read written length").split()
 SLOT_FIELDS = 27
@@ -37,7 +39,7 @@ SLOT_FIELDS = 27
 FIELD_BYTES = {"base": 4, "length": 4, **dict.fromkeys("quantum status psu psl r0 b0 b1 b2 b3 b4 b5".split(), 1)}
 
 # what the documents' words for calls and fields are here
-WORDS = {"fresh": "new", "mount": "load", "lift": "unload", "collect": "drain", "pass": "run", "round": "backlog",
+WORDS = {"fresh": "new", "mount": "load", "lift": "unload", "collect": "drain", "pass": "run", "round": "backlog", "find": "fit",
          "bay": "base", "icap": "input", "ocap": "output", "stint": "quantum"}
 
 
@@ -68,6 +70,8 @@ def call(line, given, wanted):
         return entry(RUN, line, 0, refusal, int(args[0]))
     if name == "backlog":
         return entry(BACKLOG, line, 0, refusal, int(args[0]), int(wanted[1]), raw(wanted[2]))
+    if name == "fit":
+        return entry(FIT, line, 0, refusal, 0, int(wanted[1]), int(args[0]).to_bytes(8, "big"))
     slot = int(args[0])
     if name == "load":
         return entry(LOAD, line, slot, refusal, int(args[1]), 0, raw(args[2]))

@@ -40,3 +40,8 @@ pub(crate) fn length(entry: &[u8]) -> u16 {
 pub(crate) fn bytes(entry: &[u8]) -> &[u8] {
     part(entry, 20, length(entry) as usize)
 }
+
+// The size that a fit is asked about: eight bytes.
+pub(crate) fn size(entry: &[u8]) -> usize {
+    u32_at(entry, 20) as usize * 4294967296 + u32_at(entry, 24) as usize
+}

@@ -11,6 +11,7 @@ use crate::entry::kind;
 use crate::entry::length;
 use crate::entry::line;
 use crate::entry::number;
+use crate::entry::size;
 use crate::entry::slot;
 use crate::entry::value16;
 use crate::entry::value32;
@@ -72,6 +73,11 @@ fn wanted(entry: &[u8]) -> u16 {
     u16_at(entry, 6)
 }
 
+// The count that the entry wants: how many bytes are filled, or the start that a fit answers.
+fn wanted_count(entry: &[u8]) -> u16 {
+    u16_at(entry, 12)
+}
+
 fn result_of_call(script: ScriptState, answer: Answer, entry: &[u8]) -> EntryResult {
     let refusal = answer.refusal;
     let table = answer.table;
@@ -85,7 +91,7 @@ fn result_of_call(script: ScriptState, answer: Answer, entry: &[u8]) -> EntryRes
 // Whether a call that fills a buffer answered as the entry wants, and left its buffer so.
 fn same_filled(refusal: u8, count: usize, buffer: &[u8], entry: &[u8]) -> bool {
     (refusal as u16 == wanted(entry))
-        & (count == u16_at(entry, 12) as usize)
+        & (count == wanted_count(entry) as usize)
         & check::same(front(buffer, number(entry)), bytes(entry))
 }
 
@@ -172,6 +178,18 @@ fn report_entry(script: ScriptState, entry: &[u8]) -> EntryResult {
     }
 }
 
+fn fit_entry(script: ScriptState, entry: &[u8]) -> EntryResult {
+    let table = script.table;
+    let answer = supervisor::fit(table, size(entry));
+    let refusal = answer.refusal;
+    let location = answer.location;
+    EntryResult {
+        script,
+        same: (refusal as u16 == wanted(entry)) & (location.0 == wanted_count(entry) as u32),
+        refusal,
+    }
+}
+
 // One call, with the memory that it is lent.
 fn call_entry(script: ScriptState, memory: &mut [u8], entry: &[u8]) -> EntryResult {
     let table = script.table;
@@ -203,6 +221,7 @@ fn call_entry(script: ScriptState, memory: &mut [u8], entry: &[u8]) -> EntryResu
         10 => report_entry(script, entry),
         12 => filling_entry(script, memory, entry),
         13 => filling_entry(script, memory, entry),
+        14 => fit_entry(script, entry),
         _ => result_without_call(script, false),
     }
 }
