@@ -25,7 +25,7 @@ void buffer_pair_note_before(buffer_pair *p);
 typedef struct {
     const char *what;       /* NULL if nothing differs */
     const char *where;
-    size_t at;              /* NO_PLACE if it is no byte of the buffer */
+    size_t at;              /* NO_OFFSET if it is no byte of the buffer */
     unsigned product, expected;
 } difference;
 

@@ -8,7 +8,7 @@
 #include <string.h>
 
 const char *const call_names[CALL_KINDS] = {
-    "pf_new", "pf_load", "pf_unload", "pf_feed", "pf_drain", "pf_run", "pf_report", "pf_backlog",
+    "pf_new", "pf_load", "pf_unload", "pf_feed", "pf_drain", "pf_run", "pf_report", "pf_backlog", "pf_fit",
     "pf_read", "pf_code", "pf_input", "pf_write"
 };
 
@@ -30,6 +30,7 @@ const uint32_t call_refusals[CALL_KINDS] = {
     [CALL_RUN] = SYSTEM_REFUSALS,
     [CALL_REPORT] = BIT(0) | BIT(PF_NOT_SOUND) | BIT(PF_NO_SLOT) | BIT(PF_EMPTY) | BIT(PF_SHORT),
     [CALL_BACKLOG] = BIT(0) | BIT(PF_NOT_SOUND) | BIT(PF_SHORT),
+    [CALL_FIT] = BIT(0) | BIT(PF_NOT_SOUND) | BIT(PF_SIZE) | BIT(PF_NO_EXTENT),
     [CALL_READ] = READER_REFUSALS | BIT(PF_SHORT),
     [CALL_CODE] = READER_REFUSALS,
     [CALL_INPUT] = READER_REFUSALS,
@@ -66,11 +67,11 @@ static void lend_table(call *c, system_pair *both)
     c->table = random_one_in(60) ? lend_other(c, &both->table) : &both->table;
 }
 
-/* A table that no memory goes with. */
-static void lend_table_alone(call *c, ref_table *table)
+/* A table that no memory goes with, made by `make`, and sometimes damaged. */
+static void lend_table_alone(call *c, ref_table *table, void (*make)(ref_table *))
 {
     uint8_t bytes[PF_TABLE_BYTES];
-    table_random_counts(table);
+    make(table);
     if (random_one_in(8)) table_damage(table);
     encode_table(table, bytes);
     c->table = &c->buffers[c->buffer_count++];
@@ -170,14 +171,14 @@ static gap gap_at(const ref_table *table, size_t location)
     return (gap){ location, location < end ? end - location : 0 };
 }
 
-/* Behind a partition or at 0, with room for the least pattern; else anywhere. */
-static gap random_gap(const ref_table *table)
+/* Behind a partition or at 0, of at least so many bytes; else anywhere. */
+static gap random_gap(const ref_table *table, size_t least)
 {
     size_t first = random_below(SLOTS + 1);
     for (size_t i = 0; i <= SLOTS; i++) {
         size_t k = (first + i) % (SLOTS + 1);
         gap g = gap_at(table, k < SLOTS ? partition_end(&table->slots[k]) : 0);
-        if (g.length >= 3) return g;
+        if (g.length >= least) return g;
     }
     return (gap){ random_below(table->memory_length), 3 };
 }
@@ -238,13 +239,23 @@ static void make_new(call *c, system_pair *both)
     c->refusal = has_full_table(c) ? reference_new(c, both) : PF_NOT_SOUND;
 }
 
+/* Sometimes where pf_fit says: 12 and 13 are then a difference, whatever the reference answers. */
+static void choose_location(call *c, const system_pair *both, gap g, size_t size)
+{
+    c->location = random_location_for(&both->reference_table, g, size);
+    if (!random_one_in(4)) return;
+    pf_answer fit = pf_fit(PRODUCT_ARGS(c->table), size);
+    c->fitted = !pf_refusal(fit);
+    if (c->fitted) c->location = pf_count(fit);
+}
+
 static void make_load(call *c, system_pair *both)
 {
     lend_system(c, both);
-    gap g = random_gap(&both->reference_table);
-    buffer_pair *file = lend_file(c, smaller(g.length, 40960));
+    gap g = random_gap(&both->reference_table, 3);
+    buffer_pair *file = lend_file(c, smaller(g.length, PF_PARTITION_MOST));
     c->slot = random_slot_for(&both->reference_table, is_empty, is_empty);
-    c->location = random_location_for(&both->reference_table, g, partition_size_of_file(file));
+    choose_location(c, both, g, partition_size_of_file(file));
     c->answer = pf_load(PRODUCT_ARGS(c->table), PRODUCT_ARGS(c->memory), c->slot, c->location, PRODUCT_ARGS(file));
     c->refusal = !has_full_table(c) ? PF_NOT_SOUND
         : (unsigned)ref_load(&both->reference_table, REFERENCE_ARGS(c->memory), c->slot, REFERENCE_ARGS(file),
@@ -356,7 +367,7 @@ static void make_backlog(call *c, system_pair *both)
 {
     ref_table asked = both->reference_table;
     if (random_one_in(2)) lend_table(c, both);
-    else lend_table_alone(c, &asked);
+    else lend_table_alone(c, &asked, table_random_counts);
     buffer_pair *buffer = lend_buffer(c, "buffer", random_room_for(backlog_length(&asked)));
     size_t count = 0;
     c->answer = pf_backlog(PRODUCT_ARGS(c->table), PRODUCT_ARGS(buffer));
@@ -364,9 +375,39 @@ static void make_backlog(call *c, system_pair *both)
     c->expected = (uint32_t)count;
 }
 
+/* Mostly a gap's length, or close to it; edges; numbers that a cut to fewer bits would turn into sizes that fit. */
+static size_t random_size_for(gap g)
+{
+    const size_t odd[] = { 0, 0, 1, 2, 40959, PF_PARTITION_MOST, 40961, 65535, 65536, 65536 + g.length, UINT32_MAX,
+                           (size_t)UINT32_MAX + 1, (size_t)UINT32_MAX + 2, (size_t)UINT32_MAX + 1 + g.length,
+                           SIZE_MAX / 2 + 1, SIZE_MAX - g.length + 1, SIZE_MAX };
+    switch (random_below(16)) {
+    case 0: case 1: case 2: return RANDOM_OF(odd);
+    case 3: case 4: return g.length + 1;
+    case 5: case 6: return g.length - 1;
+    case 7: case 8: return random_between(1, g.length);
+    case 9: return random_between(1, PF_PARTITION_MOST);
+    default: return g.length;
+    }
+}
+
+/* Half of the calls are lent a table that is no system's, where free extents are more often equally long, and
+ * partitions more often adjoin, than lists of calls make them. */
+static void make_fit(call *c, system_pair *both)
+{
+    ref_table asked = both->reference_table;
+    if (random_one_in(2)) lend_table(c, both);
+    else lend_table_alone(c, &asked, table_random_extents);
+    uint32_t start = 0;
+    c->size = random_size_for(random_gap(&asked, 1));
+    c->answer = pf_fit(PRODUCT_ARGS(c->table), c->size);
+    c->refusal = !has_full_table(c) ? PF_NOT_SOUND : (unsigned)ref_fit(&asked, c->size, &start);
+    c->expected = start;
+}
+
 /* ---- calls with a file */
 
-static size_t random_file_memory(void) { return random_one_in(30) ? 40960 : random_between(3, 600); }
+static size_t random_file_memory(void) { return random_one_in(30) ? PF_PARTITION_MOST : random_between(3, 600); }
 
 static void make_read(call *c)
 {
@@ -477,6 +518,7 @@ static void make_kind(call *c, system_pair *both)
     case CALL_RUN: make_run(c, both); break;
     case CALL_REPORT: make_report(c, both); break;
     case CALL_BACKLOG: make_backlog(c, both); break;
+    case CALL_FIT: make_fit(c, both); break;
     case CALL_READ: make_read(c); break;
     case CALL_WRITE: make_write(c); break;
     default: make_stretch(c); break;
@@ -496,11 +538,18 @@ void call_make(call *c, enum call_kind kind, system_pair *both)
     encode_table(&both->reference_table, both->table.reference);
 }
 
+/* A pattern does not fit where pf_fit said that it does. */
+static int breaks_promise(const call *c)
+{
+    return c->fitted && (pf_refusal(c->answer) == PF_PAST_END || pf_refusal(c->answer) == PF_MEETS);
+}
+
 difference call_difference(const call *c, system_pair *both)
 {
     int refused = c->refusal != 0;
     if (c->answer != c->expected)
         return (difference){ "not as the reference answers", "answer", NO_OFFSET, c->answer, c->expected };
+    if (breaks_promise(c)) return (difference){ "refused where pf_fit said", "answer", NO_OFFSET, c->answer, 0 };
     difference d = buffer_pair_difference(&both->table, refused);
     if (!d.what) d = buffer_pair_difference(&both->memory, refused);
     for (size_t i = 0; i < c->buffer_count && !d.what; i++) d = buffer_pair_difference(&c->buffers[i], refused);
@@ -513,8 +562,8 @@ void call_print(const call *c)
     if (c->table) printf(" table of %zu bytes,", c->table->length);
     if (c->memory) printf(" memory of %zu,", c->memory->length);
     for (size_t i = 0; i < c->buffer_count; i++) printf(" %s of %zu,", c->buffers[i].name, c->buffers[i].length);
-    printf(" slot %zu, location %zu, length %zu, rounds %u (0 where it takes none)\n",
-           c->slot, c->location, c->length, c->rounds);
+    printf(" slot %zu, location %zu, length %zu, size %zu, rounds %u (0 where it takes none)\n",
+           c->slot, c->location, c->length, c->size, c->rounds);
 }
 
 void call_free(call *c)

@@ -13,7 +13,7 @@ typedef struct {
 } system_pair;
 
 enum call_kind {
-    CALL_NEW, CALL_LOAD, CALL_UNLOAD, CALL_FEED, CALL_DRAIN, CALL_RUN, CALL_REPORT, CALL_BACKLOG,
+    CALL_NEW, CALL_LOAD, CALL_UNLOAD, CALL_FEED, CALL_DRAIN, CALL_RUN, CALL_REPORT, CALL_BACKLOG, CALL_FIT,
     CALL_READ, CALL_CODE, CALL_INPUT, CALL_WRITE, CALL_KINDS
 };
 
@@ -22,12 +22,13 @@ extern const char *const call_names[CALL_KINDS];
 /* The refusals that the header lists for each call, and 0, as bits. Of pf_code and pf_input: the reader's. */
 extern const uint32_t call_refusals[CALL_KINDS];
 
-enum { REFUSAL_COUNT = 17, MAX_BUFFERS = 6 };
+enum { REFUSAL_COUNT = 19, MAX_BUFFERS = 6 };
 
 typedef struct {
     enum call_kind kind;
-    size_t slot, location, length;
+    size_t slot, location, length, size;
     uint16_t rounds;
+    int fitted;                 /* pf_fit told the location of this load */
     buffer_pair *table, *memory;       /* the system's, or one of another length among those lent */
     buffer_pair buffers[MAX_BUFFERS];       /* buffers for this call alone */
     size_t buffer_count;

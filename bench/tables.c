@@ -52,18 +52,24 @@ static uint16_t random_capacity(size_t room)
     return (uint16_t)random_between(1, random_one_in(8) ? most : smaller(most, 24));
 }
 
-/* A partition at or behind a location, if one still fits before the memory's end. Answers where the next may start. */
-static size_t random_partition(ref_slot *s, size_t location, size_t length)
+/* A partition from a location on, of so many bytes at most, and of three at least. */
+static void random_partition_at(ref_slot *s, size_t location, size_t room)
 {
-    size_t start = random_one_in(2) ? location : location + random_below(60);
-    if (start + 3 > length) return location;
-    size_t all = random_between(3, smaller(length - start, random_one_in(10) ? MAX_WINDOW + 2 * MAX_CAPACITY : 700));
-    s->base = (uint32_t)start;
+    size_t all = random_between(3, smaller(room, random_one_in(10) ? MAX_WINDOW + 2 * MAX_CAPACITY : 700));
+    s->base = (uint32_t)location;
     s->input = random_capacity(all - 2);
     s->output = random_capacity(all - 1 - s->input);
     s->window = (uint32_t)smaller(all - s->input - s->output, MAX_WINDOW);
     s->quantum = (uint8_t)(random_one_in(4) ? 255 : random_between(1, 20));
     random_state(s);
+}
+
+/* A partition at or behind a location, if one still fits before the memory's end. Answers where the next may start. */
+static size_t random_partition(ref_slot *s, size_t location, size_t length)
+{
+    size_t start = random_one_in(2) ? location : location + random_below(60);
+    if (start + 3 > length) return location;
+    random_partition_at(s, start, length - start);
     return partition_end(s);
 }
 
@@ -103,6 +109,46 @@ void table_random_counts(ref_table *table)
         random_partition(s, i * stride, i * stride + stride - MAX_CAPACITY);
         random_count(s);
     }
+}
+
+/* The length of a free extent, or 0 for none: often the same one. */
+static size_t random_extent(size_t length)
+{
+    switch (random_below(8)) {
+    case 0: case 1: case 2: return 0;
+    case 3: return length - 1;
+    case 4: return length + 1;
+    default: return length;
+    }
+}
+
+/* The longest memory, with all partitions moved to its end or left at its start. */
+static void lengthen_memory(ref_table *table)
+{
+    const uint32_t more = random_one_in(2) ? MEMORY_MAX - table->memory_length : 0;
+    for (size_t k = 0; k < SLOTS; k++)
+        if (table->slots[k].status != ST_EMPTY) table->slots[k].base += more;
+    table->memory_length = MEMORY_MAX;
+}
+
+/* Partitions one behind the other, with an extent or none before each of them and behind the last. What the extents do
+ * not take of the longest memory is room for partitions. */
+void table_random_extents(ref_table *table)
+{
+    const size_t length = random_between(1, random_one_in(4) ? 7000 : 40);
+    const size_t first = random_below(SLOTS), step = 1 + 2 * random_below(4);
+    size_t location = 0, room = MEMORY_MAX - (SLOTS + 1) * (length + 1);
+    memset(table, 0, sizeof *table);
+    for (size_t i = 0; i < SLOTS; i++) {
+        ref_slot *s = &table->slots[(first + i * step) % SLOTS];
+        location += random_extent(length);
+        if (random_one_in(8) || room < 3) continue;
+        random_partition_at(s, location, room);
+        location += partition_size(s);
+        room -= partition_size(s);
+    }
+    table->memory_length = (uint32_t)(location + random_extent(length));
+    if (random_one_in(4) || !table->memory_length) lengthen_memory(table);
 }
 
 /* ---- damaged tables */

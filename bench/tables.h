@@ -9,6 +9,10 @@ void table_random(ref_table *table, uint8_t *memory, size_t length);
 /* A sound table, for which no memory is filled, of slots that have put out many bytes, and often equally many. */
 void table_random_counts(ref_table *table);
 
+/* A sound table, for which no memory is filled, of partitions that often adjoin, and free extents that are often
+ * equally long. */
+void table_random_extents(ref_table *table);
+
 /* One thing changed: what comes out may be sound. */
 void table_damage(ref_table *table);
 
