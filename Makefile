@@ -15,7 +15,7 @@ check: lint tools
 tools:
 	python3 -B -m unittest discover -s tools/tests
 
-speed differential machines inlined:
+speed versions differential machines inlined branchless:
 	$(MAKE) -C bench $@
 
-.PHONY: lint check tools speed differential machines inlined
+.PHONY: lint check tools speed versions differential machines inlined branchless

@@ -1,11 +1,11 @@
 #define _POSIX_C_SOURCE 200809L
 #include "speed.h"
+#include "seconds.h"
 #include "timed_systems.h"
 #include <dirent.h>
 #include <stdio.h>
 #include <stdlib.h>
 #include <string.h>
-#include <time.h>
 
 /* A machine alone, and rounds of 1, 2 and 8 slots: each at quanta of 255 and of 1. */
 enum { QUANTA = 2, SETUPS = 4, ALONE = 0, SWEEPS = 20, RUNS = 21, STEPS = 60000, MAX_PATTERNS = 64 };
@@ -26,13 +26,6 @@ typedef struct {
 } row;
 
 static row rows[MAX_PATTERNS];
-
-static double seconds_now(void)
-{
-    struct timespec t;
-    clock_gettime(CLOCK_MONOTONIC, &t);
-    return (double)t.tv_sec + (double)t.tv_nsec * 1e-9;
-}
 
 static void keep_best(timing *best, double start, double middle, double end)
 {
