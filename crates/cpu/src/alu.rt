@@ -11,17 +11,15 @@ pub struct AluResult {
     pub psl: u8,
 }
 
+// CC without a branch: 1 if b is not zero, which is when `b + 255` reaches 256, plus 1 if b is negative. `(b != 0) as u8` is shorter,
+// but with it a step takes more instructions of the processor on average (docs/DECISIONS.md, "CC by arithmetic").
 fn condition_code(b: u8) -> u8
     ensures { λ r. ⌜ r ≡ conditionCodeOf b ⌝ }
     ensures { λ r. ⌜ r < 3 ⌝ }
 {
-    if b == 0 {
-        0
-    } else if b < 128 {
-        1
-    } else {
-        2
-    }
+    let nonzero = (b as u16 + 255) / 256;
+    let sign = b as u16 / 128;
+    (nonzero + sign) as u8
 }
 
 pub(crate) fn with_cc(psl: u8, cc: u8) -> u8
