@@ -10,9 +10,11 @@ pub mod Ordering
 -- Names for lists of definitions.
 pub mod ConditionDefinitions
 -- Laws that the checker has shown.
+pub mod ChoiceLaws
 pub mod TestLaws
 pub mod RefusalLaws
 pub mod RepetitionLaws
 pub mod LayoutLaws
 pub mod TotalLaws
 pub mod OrderingLaws
+pub mod Signed16Laws

@@ -3,28 +3,10 @@
 use Prim.Native.Nat.{ℕ, _+_, _*_, _/_, _%_}
 use lib.Dec.{eqb}
 use lib.ListN.{getD, set, replicate}
+use Rattle.alu.specs.Psl.{bitRS}
 use Rattle.common.specs.Choice.{if_then_else_}
 use Rattle.common.specs.declared.places.Address.{Address}
 use Rattle.cpu.specs.declared.cpu.Cpu.{Cpu}
-
--- PSL by the manual's letters: carry, compare, with carry, register select, interdigit carry, condition code
-abbrev pub bitC : ℕ → ℕ
-bitC psl = psl % 2
-
-abbrev pub bitCOM : ℕ → ℕ
-bitCOM psl = psl / 2 % 2
-
-abbrev pub bitWC : ℕ → ℕ
-bitWC psl = psl / 8 % 2
-
-abbrev pub bitRS : ℕ → ℕ
-bitRS psl = psl / 16 % 2
-
-abbrev pub bitIDC : ℕ → ℕ
-bitIDC psl = psl / 32 % 2
-
-abbrev pub fieldCC : ℕ → ℕ
-fieldCC psl = psl / 64
 
 -- PSU's stack pointer, and PSU with another one
 abbrev pub fieldSP : ℕ → ℕ

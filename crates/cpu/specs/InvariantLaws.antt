@@ -8,11 +8,11 @@ use Rattle.cpu.specs.Branch.{registerCountedOf, clearIIOf}
 use Rattle.cpu.specs.Operand.{steppedIndexOf}
 use Rattle.cpu.specs.Result.{addressAfter, advancedOf, withAluResult}
 use Rattle.cpu.specs.Cpu.{withSP, withoutII, storedPsu, counterOf, psuOf, returnOf, withCounter, withRegister, withPsu, withPsl, withReturn, callOf, returnFromCallOf}
-use Rattle.cpu.specs.ChoiceLaws.{if-all}
+use Rattle.common.specs.ChoiceLaws.{if-all}
 use Rattle.common.specs.declared.places.Address.{Address}
-use Rattle.cpu.specs.declared.alu.AluResult.{AluResult}
-use Rattle.cpu.specs.declared.decode.BranchKind.{BranchKind}
-use Rattle.cpu.specs.declared.decode.BranchKind.the-variants.{Bct, Bcf, Brn, Bir, Bdr, Bst, Bsf, Bsn}
+use Rattle.alu.specs.declared.alu.AluResult.{AluResult}
+use Rattle.decode.specs.declared.decode.BranchKind.{BranchKind}
+use Rattle.decode.specs.declared.decode.BranchKind.the-variants.{Bct, Bcf, Brn, Bir, Bdr, Bst, Bsf, Bsn}
 use Rattle.cpu.specs.declared.cpu.Cpu.{Cpu}
 
 -- an invariant says something of a Cpu, of the addresses that a machine comes to, and of the values of PSU.

@@ -1,8 +1,6 @@
 -- Definitions that must be believed, in reading order.
 pub mod Cpu
-pub mod Alu
 pub mod Address
-pub mod Decode
 pub mod Result
 pub mod Operand
 pub mod Branch
@@ -17,8 +15,7 @@ pub mod StepDefinitions
 -- Laws that the checker has shown, for the layers above.
 pub mod Cases
 pub mod RestLaws
-pub mod DecodeLaws
-pub mod ChoiceLaws
+pub mod AddressLaws
 pub mod InvariantLaws
 pub mod CpuInvariantLaws
 pub mod StepLaws

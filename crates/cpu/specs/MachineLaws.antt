@@ -13,7 +13,7 @@ use Rattle.cpu.specs.Result.{StepResult, lastStatus}
 use Rattle.cpu.specs.InvariantLaws.{KeepsInvariants}
 use Rattle.cpu.specs.CpuInvariantLaws.{CpuSound, keeps-sound, CpuShaped, keeps-shaped}
 use Rattle.cpu.specs.StepLaws.{Ending, continues, halts, stores, takes-input, puts-output, wants-input, finds-full, stops, step-ends}
-use Rattle.cpu.specs.ChoiceLaws.{if-all}
+use Rattle.common.specs.ChoiceLaws.{if-all}
 
 -- a machine is changed into one that has its sizes
 pub record SameSizes (m n : Machine) : Type 0 where

@@ -9,10 +9,10 @@ use Rattle.cpu.specs.Cpu.{counterOf, registerOf, withRegister}
 use Rattle.common.specs.declared.places.Address.{Address}
 use Rattle.cpu.specs.declared.address.Resolved.{Resolved}
 use Rattle.cpu.specs.declared.address.Resolved.the-variants.{At, Outside}
-use Rattle.cpu.specs.declared.decode.Mode.{Mode}
-use Rattle.cpu.specs.declared.decode.Mode.the-variants.{Register, Immediate, Relative, Absolute}
-use Rattle.cpu.specs.declared.decode.Access.{Access}
-use Rattle.cpu.specs.declared.decode.Access.the-variants.{Read, Write}
+use Rattle.decode.specs.declared.decode.Mode.{Mode}
+use Rattle.decode.specs.declared.decode.Mode.the-variants.{Register, Immediate, Relative, Absolute}
+use Rattle.decode.specs.declared.decode.Access.{Access}
+use Rattle.decode.specs.declared.decode.Access.the-variants.{Read, Write}
 use Rattle.cpu.specs.declared.cpu.Cpu.{Cpu}
 
 -- an operand: its byte, its address, the register that it is used with, and the Cpu after the instruction's own bytes:

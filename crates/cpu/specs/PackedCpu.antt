@@ -8,7 +8,7 @@ use Rattle.common.specs.Choice.{if_then_else_}
 use Rattle.cpu.specs.Operand.{Operand, Found, NoOperand, dataRegisterOf}
 use Rattle.cpu.specs.Result as result
 use Rattle.cpu.specs.Result.{Effect, Ports, StepResult}
-use Rattle.cpu.specs.Cpu.{bitRS}
+use Rattle.alu.specs.Psl.{bitRS}
 use Rattle.cpu.specs.declared.packed_cpu.PackedCpu.{PackedCpu}
 use Rattle.cpu.specs.declared.operand.OperandResult.{OperandResult}
 use Rattle.cpu.specs.declared.operand.OperandResult.the-variants.{Ready, Missing}

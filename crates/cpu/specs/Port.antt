@@ -1,6 +1,6 @@
 -- Definitions that must be believed: the data port (document 01, "The machine"; manual, "Input/Output Facilities").
 use Prim.Native.Nat.{ℕ}
-use Rattle.cpu.specs.Alu.{loadResultOf}
+use Rattle.alu.specs.Alu.{loadResultOf}
 use Rattle.common.specs.Choice.{if_then_else_}
 use Rattle.cpu.specs.Result.{Ports, Take, Put, StepResult, stepResult, stoppedOf, advancedOf, withAluResult}
 use Rattle.cpu.specs.Cpu.{pslOf, registerOf}

@@ -3,7 +3,7 @@ use mathlib.Core.Bool.{Bool}
 use mathlib.Core.List.{List}
 use Prim.Native.Nat.{ℕ, _+_, _%_}
 use Rattle.cpu.specs.Address.{fetchOf, ifFetched}
-use Rattle.cpu.specs.Alu.{withCC, testCCOf}
+use Rattle.alu.specs.Alu.{testPslOf}
 use Rattle.common.specs.Choice.{if_then_else_}
 use Rattle.cpu.specs.Result.{StepResult, runningOf, stoppedOf, addressAfter, advancedOf}
 use Rattle.cpu.specs.Cpu.{pslOf, psuOf, withPsl}
@@ -19,4 +19,4 @@ maskedOf cpu k window f = ifFetched (fetchOf window (addressAfter cpu 1)) (stopp
 
 -- CC by a test of v under the mask
 unfoldable pub testedOf : Cpu → ℕ → List ℕ → ℕ → StepResult
-testedOf cpu k window v = maskedOf cpu k window (λ mask. withPsl cpu (withCC (pslOf cpu) (testCCOf v mask)))
+testedOf cpu k window v = maskedOf cpu k window (λ mask. withPsl cpu (testPslOf (pslOf cpu) v mask))

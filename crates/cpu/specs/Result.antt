@@ -2,11 +2,11 @@
 use mathlib.Core.Bool.{Bool}
 use Prim.Native.Nat.{ℕ}
 use Rattle.cpu.specs.Address.{addInPage}
-use Rattle.cpu.specs.Alu.{operationResultOf}
+use Rattle.alu.specs.Alu.{operationResultOf}
 use Rattle.cpu.specs.Cpu.{counterOf, pslOf, registerOf, withCounter, withRegister, withPsl}
 use Rattle.common.specs.declared.places.Address.{Address}
-use Rattle.cpu.specs.declared.alu.AluResult.{AluResult}
-use Rattle.cpu.specs.declared.decode.Operation.{Operation}
+use Rattle.alu.specs.declared.alu.AluResult.{AluResult}
+use Rattle.alu.specs.declared.alu.Operation.{Operation}
 use Rattle.cpu.specs.declared.cpu.Cpu.{Cpu}
 
 -- what a step may see of the buffers: is input unread, its next byte, is the output full

@@ -2,10 +2,10 @@
 -- Nothing here has to be believed.
 use Rattle.common.specs.Choice.{if_then_else_}
 use Rattle.cpu.specs.Address.{displacedOf, displacementOf, fetchOf, ifFetched, ifResolved, pointerOf, relativeOf, resolveOf}
-use Rattle.cpu.specs.Alu.{adjustDigitOf, carryInOf, compareCCOf, compareResultOf, conditionCodeOf, decimalAdjustOf, loadResultOf, operationResultOf, overflowOf, rotateLeftOf, rotateResultOf, rotateRightOf, signedOf, sumResultOf, testCCOf}
+use Rattle.alu.specs.Alu.{adjustDigitOf, carryInOf, compareCCOf, compareResultOf, conditionCodeOf, decimalAdjustOf, loadResultOf, operationResultOf, overflowOf, rotateLeftOf, rotateResultOf, rotateRightOf, signedOf, sumResultOf, testCCOf, testPslOf}
 use Rattle.cpu.specs.Branch.{branchIfTakenOf, branchOf, clearIIOf, conditionMetOf, indexedBranchOf, isCallOf, isTakenOf, jumpOf, registerCountedOf, returnEnableOf, returnIfOf, targetOf, zeroBranchOf}
 use Rattle.cpu.specs.Cpu.{callOf, counterOf, freshCpu, pslOf, psuOf, registerIndex, registerOf, returnOf, returnFromCallOf, withCounter, withPsl, withPsu, withRegister, withReturn}
-use Rattle.cpu.specs.Decode.{decodeOf, eachOfFour, firstAndRest, restAndLast}
+use Rattle.decode.specs.Decode.{decodeOf, eachOfFour, firstAndRest, restAndLast}
 use Rattle.cpu.specs.Instruction.{executeOf, instructionStep}
 use Rattle.cpu.specs.Machine.{machineStep, withEffect}
 use Rattle.cpu.specs.Operand.{absoluteOperandOf, dataRegisterOf, immediateOperandOf, indexValueOf, indexedAddressOf, operandOf, operateOnOperandOf, registerOperandOf, relativeOperandOf, steppedIndexOf}
@@ -20,7 +20,7 @@ cpu-definitions = Unit {0}
 
 -- results and the PSL that they leave
 unfoldable pub alu-definitions : Type 0
-unfolding conditionCodeOf overflowOf sumResultOf carryInOf loadResultOf signedOf compareCCOf compareResultOf operationResultOf testCCOf rotateResultOf rotateLeftOf rotateRightOf adjustDigitOf decimalAdjustOf
+unfolding conditionCodeOf overflowOf sumResultOf carryInOf loadResultOf signedOf compareCCOf compareResultOf operationResultOf testCCOf testPslOf rotateResultOf rotateLeftOf rotateRightOf adjustDigitOf decimalAdjustOf
 alu-definitions = Unit {0}
 
 -- addresses, and reading through them

@@ -9,32 +9,33 @@ use lib.ListN.{length}
 use Rattle.cpu.specs.Address.{fetchOf, ifFetched, pointerOf, resolveOf}
 use Rattle.cpu.specs.Branch.{registerCountedOf, isCallOf, jumpOf, branchIfTakenOf, targetBy, targetOf, ifTarget, branchOf, zeroBranchOf, indexedBranchOf, returnIfOf, returnEnableOf}
 use Rattle.cpu.specs.InvariantLaws.{KeepsInvariants, LeadsTo, lead-after, lead-bytes, lead-wrapping, lead-relative, keep-advanced, keep-alu-result, keep-call, keep-return-from-call, keep-clear-ii, keep-index, keep-counted}
-use Rattle.cpu.specs.Decode.{decodeOf, instructionLength}
+use Rattle.decode.specs.Decode.{decodeOf, instructionLength}
 use Rattle.cpu.specs.Instruction.{executeOf, instructionStep}
 use Rattle.cpu.specs.Operand.{Operand, Found, NoOperand, registerOperandOf, immediateOperandOf, relativeOperandOf, absoluteOperandOf, operandOf, ifOperand, accessOf, operateOnOperandOf}
 use Rattle.cpu.specs.Port.{readDataOf, writeDataOf}
 use Rattle.cpu.specs.Result.{Ports, Effect, Nothing, Store, Take, Put, StepResult, stepResult, runningOf, lastStatus, stoppedOf, registerChangedOf, operatedOf}
 use Rattle.cpu.specs.Cpu.{counterOf}
 use Rattle.cpu.specs.Psw.{maskedOf, testedOf}
-use Rattle.cpu.specs.ChoiceLaws.{if-all, byte-all, address-all}
+use Rattle.cpu.specs.AddressLaws.{byte-all, address-all}
+use Rattle.common.specs.ChoiceLaws.{if-all}
 use Rattle.cpu.specs.WrtdSteps.{isWrtd, isAtWrtd}
 use Rattle.common.specs.declared.places.Address.{Address}
 use Rattle.cpu.specs.declared.address.Fetched.{Fetched}
 use Rattle.cpu.specs.declared.address.Fetched.the-variants.{Byte, NoByte}
 use Rattle.cpu.specs.declared.address.Resolved.{Resolved}
 use Rattle.cpu.specs.declared.address.Resolved.the-variants.{At, Outside}
-use Rattle.cpu.specs.declared.alu.AluResult.{AluResult}
+use Rattle.alu.specs.declared.alu.AluResult.{AluResult}
 use Rattle.cpu.specs.declared.branch.Target.{Target}
 use Rattle.cpu.specs.declared.branch.Target.the-variants.{To, NoTarget}
-use Rattle.cpu.specs.declared.decode.Instruction.{Instruction}
-use Rattle.cpu.specs.declared.decode.Instruction.the-variants.{Unknown, ControlPort, ExtendedPort, Operate, Strz, Nop, Halt, Spsu, Spsl, Lpsu, Lpsl, Cpsu, Cpsl, Ppsu, Ppsl, Tpsu, Tpsl, Tmi, Dar, Rrr, Rrl, Redd, Wrtd, Retc, Rete, Branch, Zbrr, Zbsr, Bxa, Bsxa}
-use Rattle.cpu.specs.declared.decode.BranchKind.{BranchKind}
-use Rattle.cpu.specs.declared.decode.Mode.{Mode}
-use Rattle.cpu.specs.declared.decode.Mode.the-variants.{Register, Immediate, Relative, Absolute}
-use Rattle.cpu.specs.declared.decode.BranchMode.{BranchMode}
-use Rattle.cpu.specs.declared.decode.BranchMode.the-variants as branch
-use Rattle.cpu.specs.declared.decode.Access.{Access}
-use Rattle.cpu.specs.declared.decode.Access.the-variants.{Read, Write}
+use Rattle.decode.specs.declared.decode.Instruction.{Instruction}
+use Rattle.decode.specs.declared.decode.Instruction.the-variants.{Unknown, ControlPort, ExtendedPort, Operate, Strz, Nop, Halt, Spsu, Spsl, Lpsu, Lpsl, Cpsu, Cpsl, Ppsu, Ppsl, Tpsu, Tpsl, Tmi, Dar, Rrr, Rrl, Redd, Wrtd, Retc, Rete, Branch, Zbrr, Zbsr, Bxa, Bsxa}
+use Rattle.decode.specs.declared.decode.BranchKind.{BranchKind}
+use Rattle.decode.specs.declared.decode.Mode.{Mode}
+use Rattle.decode.specs.declared.decode.Mode.the-variants.{Register, Immediate, Relative, Absolute}
+use Rattle.decode.specs.declared.decode.BranchMode.{BranchMode}
+use Rattle.decode.specs.declared.decode.BranchMode.the-variants as branch
+use Rattle.decode.specs.declared.decode.Access.{Access}
+use Rattle.decode.specs.declared.decode.Access.the-variants.{Read, Write}
 use Rattle.cpu.specs.declared.cpu.Cpu.{Cpu}
 
 -- the eight ways in which a step ends. Two of them are WRTD's, and they are its only ones

@@ -3,18 +3,18 @@ ghost use mathlib.Core.Bool.{not};
 ghost use mathlib.Core.Path.{_≡_};
 ghost use Prim.Native.Nat.{_<_};
 ghost use Rattle.cpu.specs.Branch.{conditionMetOf, registerCountedOf, registerNotZero, isTakenOf, isCallOf, jumpOf, branchIfTakenOf, targetOf, branchOf, zeroBranchOf, indexedBranchOf, returnIfOf, clearIIOf, returnEnableOf};
-ghost use Rattle.cpu.specs.Decode.{branchModeLength};
+ghost use Rattle.decode.specs.Decode.{branchModeLength};
 ghost use Rattle.cpu.specs.PackedCpu.{cpuOf, stepResultOf};
 use crate::address;
 use crate::address::Fetched;
 use crate::address::Resolved;
-use crate::decode::BranchKind;
-use crate::decode::BranchMode;
 use crate::packed_cpu;
 use crate::packed_cpu::PackedCpu;
 use crate::result;
 use crate::result::PackedStep;
 use common::Address;
+use decode::BranchKind;
+use decode::BranchMode;
 
 // What a branch's own bytes say: the indirect bit, the address, and the address of the next instruction.
 pub enum Target {

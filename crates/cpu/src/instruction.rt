@@ -2,13 +2,11 @@
 ghost use mathlib.Core.Path.{_≡_};
 ghost use Prim.Native.Nat.{_<_};
 ghost use Rattle.cpu.specs.PackedCpu.{cpuOf, stepResultOf, portsOfView};
-ghost use Rattle.cpu.specs.Decode.{instructionLength};
+ghost use Rattle.decode.specs.Decode.{instructionLength};
 ghost use Rattle.cpu.specs.Instruction.{executeOf, instructionStep};
 use crate::address;
 use crate::address::Fetched;
-use crate::alu;
 use crate::branch;
-use crate::decode::Instruction;
 use crate::operand;
 use crate::packed_cpu;
 use crate::packed_cpu::PackedCpu;
@@ -18,6 +16,7 @@ use crate::result;
 use crate::result::PackedEffect;
 use crate::result::PackedStep;
 use crate::result::PortView;
+use decode::Instruction;
 
 fn execute(
     i: Instruction,

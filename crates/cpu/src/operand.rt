@@ -2,19 +2,19 @@
 ghost use mathlib.Core.Path.{_≡_};
 ghost use Prim.Native.Nat.{_<_};
 ghost use Rattle.cpu.specs.PackedCpu.{cpuOf, stepResultOf, operandResultOf};
-ghost use Rattle.cpu.specs.Decode.{modeLength};
+ghost use Rattle.decode.specs.Decode.{modeLength};
 ghost use Rattle.cpu.specs.Operand.{indexValueOf, indexedAddressOf, dataAddressOf, dataRegisterOf, steppedIndexOf, registerOperandOf, immediateOperandOf, relativeOperandOf, absoluteOperandOf, operandOf, operateOnOperandOf};
 use crate::address;
 use crate::address::Fetched;
 use crate::address::Resolved;
-use crate::decode::Access;
-use crate::decode::Mode;
 use crate::packed_cpu;
 use crate::packed_cpu::PackedCpu;
 use crate::result;
 use crate::result::PackedEffect;
 use crate::result::PackedStep;
 use common::Address;
+use decode::Access;
+use decode::Mode;
 
 // An operand: its byte, its address, the control bits (not 0 where R0 is the data), and the registers after the
 // instruction's own bytes. The control bits are kept in place of the register's number: `data_register` makes one of them that is

@@ -3,7 +3,8 @@ ghost use mathlib.Core.Path.{_≡_};
 ghost use mathlib.Core.List.{[], _∷_};
 ghost use Prim.Native.Nat.{_<_};
 ghost use Rattle.cpu.specs.PackedCpu.{byteAt, setByte, quarterAt, setQuarter, registerBytes, inBankOrder, cpuOf};
-ghost use Rattle.cpu.specs.Cpu.{bitRS, counterOf, psuOf, pslOf, registerOf, returnOf, withCounter, withRegister, withPsu, withPsl, withReturn, callOf, returnFromCallOf};
+ghost use Rattle.alu.specs.Psl.{bitRS};
+ghost use Rattle.cpu.specs.Cpu.{counterOf, psuOf, pslOf, registerOf, returnOf, withCounter, withRegister, withPsu, withPsl, withReturn, callOf, returnFromCallOf};
 use crate::cpu::Cpu;
 use common::Address;
 

@@ -4,7 +4,6 @@ ghost use Prim.Native.Nat.{_<_};
 ghost use lib.ListN.{getD};
 ghost use Rattle.cpu.specs.PackedCpu.{cpuOf, stepResultOf, portsOfView};
 ghost use Rattle.cpu.specs.Port.{readDataOf, writeDataOf};
-use crate::alu;
 use crate::packed_cpu;
 use crate::packed_cpu::PackedCpu;
 use crate::result;

@@ -7,7 +7,6 @@ ghost use Rattle.cpu.specs.Cpu.{storedPsu, psuOf, pslOf, withPsu, withPs
 ghost use Rattle.cpu.specs.Psw.{psuWithSense, maskedOf, testedOf};
 use crate::address;
 use crate::address::Fetched;
-use crate::alu;
 use crate::packed_cpu;
 use crate::packed_cpu::PackedCpu;
 use crate::result;
@@ -88,9 +87,8 @@ pub(crate) fn tested(m: PackedCpu, window: &[u8], v: u8) -> PackedStep
     let Fetched::Byte(mask) = address::fetch(window, at) else {
         return result::stopped(m, 6);
     };
-    let cc = alu::test_cc(v, mask);
     let u = packed_cpu::psl(m);
-    let p = alu::with_cc(u, cc);
+    let p = alu::test_psl(u, v, mask);
     let n = packed_cpu::with_psl_same_bank(m, p);
     let t = result::advanced(n, 2);
     result::running(t)

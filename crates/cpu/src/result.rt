@@ -3,13 +3,13 @@ ghost use mathlib.Core.Path.{_≡_};
 ghost use Prim.Native.Nat.{_<_};
 ghost use Rattle.cpu.specs.PackedCpu.{cpuOf, effectOf, stepResultOf};
 ghost use Rattle.cpu.specs.Result.{stepResult, runningOf, stoppedOf, addressAfter, advancedOf, withAluResult, registerChangedOf, operatedOf};
-ghost use Rattle.cpu.specs.Cpu.{bitRS, pslOf};
+ghost use Rattle.alu.specs.Psl.{bitRS};
+ghost use Rattle.cpu.specs.Cpu.{pslOf};
 use crate::address;
-use crate::alu;
-use crate::alu::AluResult;
-use crate::decode::Operation;
 use crate::packed_cpu;
 use crate::packed_cpu::PackedCpu;
+use alu::AluResult;
+use alu::Operation;
 use common::Address;
 
 // What a step does beside the registers, in whole words: an address and a byte, or a byte.

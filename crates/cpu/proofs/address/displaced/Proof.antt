@@ -1,5 +1,5 @@
 use Prim.Native.Nat.{_%_, _+_}
-use Rattle.cpu.proofs.Signed16Laws.{signed-plus-back, signed-plus-fits, displaced-law, plus-signed-fits}
+use Rattle.cpu.proofs.DisplacementLaws.{signed-plus-back, signed-plus-fits, displaced-law, plus-signed-fits}
 use native.Mathlib.Omega.{arith}
 use borrow.Author.Needs.{needs}
 use Rattle.cpu.proofs.address.displaced.Statement.{statement}

@@ -1,5 +1,5 @@
 use Prim.Native.Nat.{_%_}
-use Rattle.cpu.proofs.Signed16Laws.{signed-minus-back, signed-minus-fits, as-signed}
+use Rattle.common.specs.Signed16Laws.{signed-minus-back, signed-minus-fits, as-signed}
 use Rattle.cpu.specs.Address.{displacementOf}
 use Rattle.common.specs.Choice.{if_then_else_}
 use borrow.Author.Tests.{le-ltb, lt-ltb}

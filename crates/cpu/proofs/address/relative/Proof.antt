@@ -1,4 +1,4 @@
-use Rattle.cpu.proofs.Signed16Laws.{displacement-small, signed-held-as, signed-held-small}
+use Rattle.cpu.proofs.DisplacementLaws.{displacement-small, signed-held-as, signed-held-small}
 use Rattle.cpu.specs.Address.{displacedOf, relativeOf}
 use mathlib.Core.Path.{_∙_, ap}
 use borrow.Author.Needs.{needs}

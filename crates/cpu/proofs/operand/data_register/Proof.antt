@@ -1,4 +1,4 @@
-use Rattle.cpu.proofs.TestRules.{tests}
+use Rattle.common.specs.TestLaws.{tests}
 use Rattle.common.specs.Choice.{if_then_else_}
 use Rattle.cpu.specs.Operand.{dataRegisterOf}
 use native.Mathlib.Omega.{arith}

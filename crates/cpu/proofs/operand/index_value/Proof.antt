@@ -1,5 +1,5 @@
-use Rattle.cpu.proofs.SumLaws.{stepped-down}
-use Rattle.cpu.proofs.TestRules.{tests}
+use Rattle.cpu.proofs.ByteLaws.{stepped-down}
+use Rattle.common.specs.TestLaws.{tests}
 use Rattle.common.specs.Choice.{if_then_else_}
 use Rattle.cpu.specs.Operand.{indexValueOf}
 use borrow.Author.Tests.{eq-eqb, ne-eqb}

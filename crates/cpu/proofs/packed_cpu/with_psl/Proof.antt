@@ -1,7 +1,8 @@
 use Prim.Native.Nat.{_%_, _/_}
 use Rattle.cpu.proofs.PackedCpuLaws.{swap-twice}
 use Rattle.cpu.specs.PackedCpu.{cpuOf}
-use Rattle.cpu.specs.Cpu.{bitRS, pslOf, withPsl}
+use Rattle.alu.specs.Psl.{bitRS}
+use Rattle.cpu.specs.Cpu.{pslOf, withPsl}
 use mathlib.Core.Path.{_∙_, _≡_, ap, sym}
 use native.Mathlib.Omega.{arith}
 use borrow.Author.Needs.{needs}

@@ -29,14 +29,11 @@ returns c =
       ← c .stopped .ensures,
     )
 
-test-cc-requires : tie.Need-test-cc-requires
-test-cc-requires c κs = search needs
-
 psl-requires : tie.Need-psl-requires
 psl-requires c κs = search needs
 
-with-cc-requires : tie.Need-with-cc-requires
-with-cc-requires c κs = search needs
+test-psl-requires : tie.Need-test-psl-requires
+test-psl-requires c κs = search needs
 
 with-psl-same-bank-requires : tie.Need-with-psl-same-bank-requires
 with-psl-same-bank-requires c κs = search needs
@@ -51,11 +48,10 @@ returns-2 : tie.Need-returns-2
 unfolding testedOf maskedOf ifFetched
 returns-2 c =
     rw (
-      ← c .before .before .before .before .before .before .before .before .before .before .address-after .ensures,
-      sym (c .before .before .before .before .before .before .before .before .before .fetch .ensures) ∙ c .before .before .before .before .before .before .before .mask .given .1,
-      ← c .before .before .before .before .before .test-cc .ensures .0,
+      ← c .before .before .before .before .before .before .before .before .before .address-after .ensures,
+      sym (c .before .before .before .before .before .before .before .before .fetch .ensures) ∙ c .before .before .before .before .before .before .mask .given .1,
       ← c .before .before .before .before .psl .ensures,
-      ← c .before .before .before .with-cc .ensures .0,
+      ← c .before .before .before .test-psl .ensures .0,
       ← c .before .before .with-psl-same-bank .ensures,
       ← c .before .advanced .ensures,
       ← c .running .ensures,
@@ -71,9 +67,8 @@ tested-spec =
     enum-told
     stopped-requires
     returns
-    test-cc-requires
     psl-requires
-    with-cc-requires
+    test-psl-requires
     with-psl-same-bank-requires
     advanced-requires
     running-requires

@@ -1,5 +1,6 @@
 use Rattle.cpu.specs.Result.{withAluResult}
-use Rattle.cpu.specs.Cpu.{bitRS, pslOf, withRegister}
+use Rattle.alu.specs.Psl.{bitRS}
+use Rattle.cpu.specs.Cpu.{pslOf, withRegister}
 use mathlib.Core.Path.{_∙_, ap, sym}
 use Rattle.cpu.specs.declared.cpu.Cpu.{Cpu}
 use borrow.Author.Needs.{needs}

@@ -1,0 +1,54 @@
+use Rattle.alu.proofs.SumLaws.{bank-kept}
+use mathlib.Core.Path.{refl}
+use borrow.Author.Needs.{needs}
+use Rattle.alu.proofs.psl.with_arithmetic_bits.Statement.{statement}
+use Rattle.alu.proofs.psl.with_arithmetic_bits.Tie as tie
+
+mul-result : tie.Need-mul-result
+mul-result c = search needs
+
+mul-result-2 : tie.Need-mul-result-2
+mul-result-2 c = search needs
+
+add-result : tie.Need-add-result
+add-result c = search needs
+
+mul-result-3 : tie.Need-mul-result-3
+mul-result-3 c = search needs
+
+add-result-2 : tie.Need-add-result-2
+add-result-2 c = search needs
+
+mul-result-4 : tie.Need-mul-result-4
+mul-result-4 c = search needs
+
+add-result-3 : tie.Need-add-result-3
+add-result-3 c = search needs
+
+mul-result-5 : tie.Need-mul-result-5
+mul-result-5 c = search needs
+
+add-result-4 : tie.Need-add-result-4
+add-result-4 c = search needs
+
+add-result-5 : tie.Need-add-result-5
+add-result-5 c = search needs
+
+returns : tie.Need-returns
+returns c = (refl, bank-kept _ _ _ _ _ (c .pre .1 .1 .0) (c .pre .1 .1 .1))
+
+pub with-arithmetic-bits-spec : {M : Type 1} → statement M
+with-arithmetic-bits-spec =
+    tie.close
+    (tie.spec
+    mul-result
+    mul-result-2
+    add-result
+    mul-result-3
+    add-result-2
+    mul-result-4
+    add-result-3
+    mul-result-5
+    add-result-4
+    add-result-5
+    returns)
