@@ -57,6 +57,7 @@ static const struct {
 };
 
 static const instruction others[] = {
+    { "LODZ of R0", { 0x00, 0, 0 }, 0, 0, AT_R0, 0xFF, ANY },
     { "STRZ", { 0xC1, 0, 0 }, 0, 0, AT_R0, 0xFF, ANY },
     { "RRL", { 0xD0, 0, 0 }, 0, 0, AT_R0, 0xFF, ANY },
     { "RRL with WC", { 0xD0, 0, 0 }, 0, WC, AT_R0, 0xFF, ANY },

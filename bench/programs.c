@@ -4,10 +4,11 @@
 
 int code_stops_at_once(uint8_t code)
 {
-    static const uint8_t unknown[] = { 0x00, 0x10, 0x11, 0x90, 0x91, 0xB6, 0xB7, 0xC4, 0xC5, 0xC6, 0xC7, 0x40 };
+    static const uint8_t unknown[] = { 0x10, 0x11, 0x90, 0x91, 0xB6, 0xB7, 0xC4, 0xC5, 0xC6, 0xC7 };
+    const uint8_t halt = 0x40;
     for (size_t i = 0; i < sizeof unknown; i++)
         if (code == unknown[i]) return 1;
-    return (code & 0x7C) == 0x30 || (code & 0x7C) == 0x54;
+    return code == halt || (code & 0x7C) == 0x30 || (code & 0x7C) == 0x54;
 }
 
 static uint8_t lasting_code(void)
@@ -50,14 +51,18 @@ static size_t put_instruction(uint8_t *p, size_t n)
     return length;
 }
 
-/* Some instructions from address 0 on, and a branch back to it; the rest of the window is noise or zero. */
+/* Some instructions from address 0 on, 00h as filler between some of them, and then a branch back to address 0. The rest of the
+ * window is noise or zero. */
 static void fill_instructions(uint8_t *window, size_t n)
 {
     static const uint8_t back[] = { 0x1F, 0x00, 0x00 };
     size_t at = 0, end = random_between(1, n < 120 ? n : 120);
     if (random_one_in(2)) memset(window, 0, n);
     else random_bytes(window, n);
-    while (at + 6 <= end) at += put_instruction(window + at, n);
+    while (at + 6 <= end) {
+        if (random_one_in(8)) window[at++] = 0;
+        else at += put_instruction(window + at, n);
+    }
     if (at + sizeof back <= n) memcpy(window + at, back, sizeof back);
 }
 
@@ -91,11 +96,11 @@ static void fill_loop(uint8_t *window, size_t n)
         window[l->free_offset] = (uint8_t)random64();
 }
 
-/* A few instructions that do nothing, and then one at which every machine stops. */
+/* A few instructions that do nothing, or set CC alone, and then one at which every machine stops. */
 static void fill_stop(uint8_t *window, size_t n)
 {
-    static const uint8_t last[] = { 0x40, 0x00, 0x10, 0xB7, 0xC4, 0x30, 0x54, 0xB0, 0xD7 };
-    memset(window, 0xC0, n);
+    static const uint8_t last[] = { 0x40, 0x10, 0x91, 0xB7, 0xC4, 0x30, 0x54, 0xB0, 0xD7 };
+    memset(window, random_one_in(2) ? 0xC0 : 0x00, n);
     window[random_below(n < 40 ? n : 40)] = RANDOM_OF(last);
 }
 

@@ -1,4 +1,5 @@
 #include "scripts.h"
+#include "codec.h"
 #include "pattern_floor.h"
 #include <stdio.h>
 #include <string.h>
@@ -25,7 +26,11 @@ typedef struct {
     const uint8_t *bytes;
 } entry;
 
+/* Makes the call of an entry, on the product or on the reference. A call that fills a buffer is lent the front of `buffer`. */
+typedef pf_answer call_maker(const entry *e);
+
 typedef struct {
+    call_maker *make_call;
     unsigned scripts, accepted, refused, states, different;
     pf_answer answer;       /* of the last call */
 } tally;
@@ -136,8 +141,7 @@ static pf_answer drain_lent(unsigned slot, size_t room)
     return drained;
 }
 
-/* A call that fills a buffer is lent the front of `buffer`. */
-static pf_answer make_call(const entry *e)
+static pf_answer product_call(const entry *e)
 {
     switch (e->kind) {
     case NEW: return make_new(e->number);
@@ -151,6 +155,42 @@ static pf_answer make_call(const entry *e)
     case BACKLOG: return pf_backlog(TABLE, buffer, e->number);
     default: return pf_fit(TABLE, (size_t)number_at(e->bytes, SIZE_LENGTH));
     }
+}
+
+/* The number that refuses the call, and what the product has for a count. */
+static int reference_refusal(const entry *e, ref_table *t, size_t *count)
+{
+    ref_reported reported;
+    uint32_t start = 0;
+    int refusal = 0;
+    switch (e->kind) {
+    case NEW: return ref_new(t, e->number);
+    case LOAD: return ref_load(t, MEMORY, e->slot, e->bytes, e->length, e->number);
+    case UNLOAD: return ref_unload(t, MEMORY, e->slot);
+    case FEED: return ref_feed(t, MEMORY, e->slot, e->bytes, e->length);
+    case DRAIN: return ref_drain(t, MEMORY, e->slot, buffer, e->number, count);
+    case RUN: return ref_run(t, MEMORY, (uint16_t)e->number);
+    case REPORT:
+        refusal = ref_report(t, e->slot, &reported);
+        if (!refusal) encode_report(&reported, buffer);
+        return refusal;
+    case DRAIN_LENT: return ref_drain_lent(&t->slots[e->slot], MEMORY, buffer, e->number, count);
+    case BACKLOG: return ref_backlog(t, buffer, e->number, count);
+    default:
+        refusal = ref_fit(t, number_at(e->bytes, SIZE_LENGTH), &start);
+        *count = start;
+        return refusal;
+    }
+}
+
+static pf_answer reference_call(const entry *e)
+{
+    ref_table t;
+    size_t count = 0;
+    decode_table(table, &t);
+    int refusal = reference_refusal(e, &t, &count);
+    encode_table(&t, table);
+    return refusal ? (pf_answer)refusal << 16 : (pf_answer)count;
 }
 
 static int fills_buffer(const entry *e) { return e->kind == DRAIN || e->kind == DRAIN_LENT || e->kind == BACKLOG; }
@@ -186,7 +226,7 @@ static int call_agrees(const entry *e, tally *t)
     t->answer = 0;
     if (!can_be_made(e)) return 0;
     memset(buffer, UNTOUCHED, sizeof buffer);
-    t->answer = make_call(e);
+    t->answer = t->make_call(e);
     if (pf_refusal(t->answer)) t->refused++;
     else t->accepted++;
     return pf_refusal(t->answer) == e->refusal && pf_count(t->answer) == e->field && buffer_agrees(e);
@@ -226,14 +266,56 @@ static int entry_agrees(const entry *e, tally *t)
     }
 }
 
+/* The status in decimal and the other numbers in hex, as a script has them. */
+static void print_report(void)
+{
+    for (unsigned i = 0; i < REPORT_FIELDS; i++) {
+        const field *f = &report_fields[i];
+        unsigned n = (unsigned)number_at(buffer + f->offset, f->width);
+        if (i) printf(" %0*X", 2 * f->width, n);
+        else printf("; reported %u", n);
+    }
+}
+
+/* The slots that differ, in decimal, as a script has them. */
+static void print_slots(const entry *e)
+{
+    for (unsigned k = 0; k < PF_SLOTS && e->length == PF_SLOTS * SLOT_FIELDS * 2; k++) {
+        if (numbers_agree(slot_bytes(k), slot_fields, SLOT_FIELDS, e->bytes + k * SLOT_FIELDS * 2)) continue;
+        printf("\n    st %u:", k);
+        for (unsigned i = 0; i < SLOT_FIELDS; i++)
+            printf(" %u", (unsigned)number_at(slot_bytes(k) + slot_fields[i].offset, slot_fields[i].width));
+    }
+}
+
 static void count_difference(const entry *e, tally *t)
 {
     printf("differs: script %u, line %u", t->scripts, e->line);
     if (is_call(e))
         printf(", wanted %u and count %u, answered %u and count %u", e->refusal, e->field, pf_refusal(t->answer),
                pf_count(t->answer));
+    if (e->kind == REPORT) print_report();
+    if (e->kind == STATE) print_slots(e);
     printf("\n");
     t->different++;
+}
+
+/* Every script, by one of the two. Answers 0 if all is as the scripts have it. */
+static int scripts_by(const char *name, call_maker *make_call, size_t size)
+{
+    tally t = { make_call, 0, 0, 0, 0, 0, 0 };
+    for (size_t at = 0; at < size;) {
+        entry e = entry_at(data + at);
+        if (entry_length(&e) > size - at) {
+            printf("the data end inside an entry\n");
+            return 1;
+        }
+        if (!entry_agrees(&e, &t)) count_difference(&e, &t);
+        at += entry_length(&e);
+    }
+    printf("%s: %u scripts: %u calls accepted, %u refused, %u states compared, %u different\n", name,
+           t.scripts, t.accepted, t.refused, t.states, t.different);
+    return t.different || !t.scripts;
 }
 
 int scripts(const char *path)
@@ -245,17 +327,7 @@ int scripts(const char *path)
     }
     size_t size = fread(data, 1, sizeof data - HEADER_LENGTH, f);
     fclose(f);
-    tally t = { 0, 0, 0, 0, 0, 0 };
-    for (size_t at = 0; at < size;) {
-        entry e = entry_at(data + at);
-        if (entry_length(&e) > size - at) {
-            printf("%s ends inside an entry\n", path);
-            return 1;
-        }
-        if (!entry_agrees(&e, &t)) count_difference(&e, &t);
-        at += entry_length(&e);
-    }
-    printf("%u scripts: %u calls accepted, %u refused, %u states compared, %u different\n",
-           t.scripts, t.accepted, t.refused, t.states, t.different);
-    return t.different || !t.scripts;
+    int product = scripts_by("the product", product_call, size);
+    int reference = scripts_by("the reference", reference_call, size);
+    return product || reference;
 }

@@ -1,7 +1,8 @@
 /* Times two versions of the archive on the bench runs of crate `vectors`: this one, and another whose pf_listing is linked as
  * other_pf_listing.
  *
- *     versions DATA     prints the times of both, for runs of few and of many instructions, and how many texts differ
+ *     versions DATA     prints the times of both, for runs of few and of many instructions, and how many texts differ. The times
+ *                       leave such runs out: there the two versions do different work
  *
  * Both versions make each run by turns. A turn repeats the run so often that a trial at the start was long enough to time. A run's
  * time is its best turn. */
@@ -127,7 +128,7 @@ static void print_group(const group *g, size_t count)
     size_t n = 0;
     for (size_t k = 0; k < count; k++) {
         const timed_run *t = &timed[k];
-        if (t->steps < g->least || t->steps > g->most) continue;
+        if (t->text_differs || t->steps < g->least || t->steps > g->most) continue;
         others += t->other;
         these += t->this;
         steps += (double)t->steps;
@@ -147,8 +148,9 @@ static void print_times(size_t count)
 {
     size_t different = 0;
     for (size_t k = 0; k < count; k++) different += (size_t)timed[k].text_differs;
-    printf("%zu bench runs by pf_listing, the best of %d turns each; %zu texts differ. Microseconds of the other version and of this\n"
-           "one, all runs of a row together; other / this, of these sums and of single runs: least, median, most.\n\n",
+    printf("%zu bench runs by pf_listing, the best of %d turns each; %zu texts differ, and their runs are left out. Microseconds of\n"
+           "the other version and of this one, all runs of a row together; other / this, of these sums and of single runs: least,\n"
+           "median, most.\n\n",
            count, TURNS, different);
     printf("%-28s %4s %9s  %9s %9s   %6s   %5s %5s %5s\n", "", "runs", "steps", "other", "this", "ratio", "least", "med.", "most");
     for (size_t k = 0; k < sizeof groups / sizeof groups[0]; k++) print_group(&groups[k], count);

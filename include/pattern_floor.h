@@ -60,7 +60,7 @@ enum {
     PF_STATUS_HALTED = 2,       /* by HALT; the counter is behind it */
     PF_STATUS_WANTS_INPUT = 3,  /* REDD with nothing unread: pf_feed lets it go on */
     PF_STATUS_OUTPUT_FULL = 4,  /* WRTD with a full output: pf_drain lets it go on */
-    PF_STATUS_UNKNOWN = 5,      /* a code that is no instruction */
+    PF_STATUS_UNKNOWN = 5,      /* a code that is no instruction: 10h, 11h, 90h, 91h, B6h, B7h, C4h to C7h */
     PF_STATUS_OUTSIDE = 6,      /* an address outside of the window */
     PF_STATUS_PORT = 7          /* REDC, WRTC, REDE or WRTE */
 };

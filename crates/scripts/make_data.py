@@ -1,10 +1,12 @@
 #!/usr/bin/env python3
 """Makes crates/scripts/data/scripts.bin of scripts of calls with what each call must answer.
 
-usage: make_data.py scripts.bin FILE..    (floor.txt, u1.txt, u2.txt and edges.txt)
+usage: make_data.py scripts.bin FILE..    (floor_u4.txt, u1.txt, u2.txt, u4.txt and edges.txt)
 
-The scripts of floor.txt came with document 01, those of u1.txt and u2.txt with document 02's requests U1 and U2. These three
-are not in this repository, and have the documents' words; edges.txt has the glossary's. The lines of a script:
+The scripts of floor_u4.txt came with document 01, and have the answers that they get since document 02's request U4. Those of
+u1.txt, u2.txt and u4.txt came with the requests. These four are not in this repository, and have the documents' words;
+edges.txt has the glossary's. Lines of u1.txt and u2.txt that U4 changed are taken from later_answers.txt, beside this file.
+A vector of a bench run (V, and = for each line of its text) is left out. The lines of a script:
 
     S n                         a new script: table and memory all zero
     new LENGTH => n             the table handed back replaces the table, also when refused
@@ -29,6 +31,7 @@ An entry of scripts.bin: ten two-byte numbers, high byte first (kind, line, slot
 count, length of the bytes), two of them spare and zero, then the bytes. Of a fit the count is the start, and the bytes are the
 size: eight of them, high byte first.
 """
+import os
 import sys
 
 NEW_SCRIPT, NEW, LEND, POKE, UNPOKE, LOAD, UNLOAD, FEED, DRAIN, RUN, REPORT, STATE, DRAIN_LENT, BACKLOG, FIT = range(15)
@@ -92,12 +95,41 @@ def poke(line, slot, field, value):
     return entry(POKE, line, slot, 0, value, FIELDS.index(field))
 
 
-def entries(path):
+def later_answers():
+    """A file and a line of it, and what stands there now."""
+    found = {}
+    for row in open(os.path.join(os.path.dirname(__file__), "later_answers.txt")):
+        if row.strip() and not row.startswith("#"):
+            at, text = row.strip().split(": ", 1)
+            name, line = at.split()
+            assert (name, int(line)) not in found, f"later_answers.txt has {at} twice"
+            found[name, int(line)] = text
+    return found
+
+
+def asked(text):
+    """What a line asks: its words before the answer."""
+    return text.split(":" if text.startswith("st ") else "=>")[0]
+
+
+def lines(path, later):
+    """Number and text of each line, comments and vectors of bench runs left out, and an empty one at the end."""
+    for line, text in enumerate(open(path), 1):
+        text = "" if text.startswith(("V ", "= ")) else text.split("#")[0].strip()
+        now = later.pop((os.path.basename(path), line), None)
+        if now is not None:
+            assert asked(now) == asked(text), f"{path}, line {line}: later_answers.txt asks something else"
+            assert now != text, f"{path}, line {line}: later_answers.txt has the same answer"
+            text = now
+        yield line, text
+    yield line + 1, ""
+
+
+def entries(path, later):
     """Of one file of scripts, in order."""
     out, state = [], None
     group, last = 0, ""  # how many pokes the last group has, and the last line's name
-    for line, text in enumerate([*open(path), ""], 1):
-        text = text.split("#")[0].strip()
+    for line, text in lines(path, later):
         if state is not None and not text.startswith("st "):
             crc, at, slots = state
             out.append(entry(STATE, at, 0, 0, crc, 0, b"".join(u16s(s) for s in slots)))
@@ -130,7 +162,9 @@ def entries(path):
 
 
 def main(target, *paths):
-    every = [one for path in paths for one in entries(path)]
+    later = later_answers()
+    every = [one for path in paths for one in entries(path, later)]
+    assert not later, f"later_answers.txt names {min(later)}, which no given file has"
     out = b"".join(every)
     open(target, "wb").write(out)
     print(f"{len(every)} entries, {len(out)} bytes")

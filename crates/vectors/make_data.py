@@ -1,14 +1,15 @@
 #!/usr/bin/env python3
-"""Makes crates/vectors/data/vectors.bin of the vectors in bench.txt: pattern files, what the reader must answer for each, and
-what its bench run must print.
+"""Makes crates/vectors/data/vectors.bin of bench runs: pattern files, what the reader must answer for each, and what its bench
+run must print.
 
-usage: make_data.py BENCH.TXT vectors.bin
+usage: make_data.py vectors.bin FILE..    (bench.txt and u4.txt)
 
-bench.txt came with document 01, and is not in this repository.
+bench.txt came with document 01, u4.txt with document 02's request U4. They are not in this repository. A vector of a later file
+that is called `base vector, now other: NAME` takes the place of NAME: the request changed what it prints.
 
-The text of a bench run is the one of bench.txt. What the reader has to answer is worked out here, by a reader of pattern files
-of form 1 that shares nothing with the product, and held against the `refused N` lines of bench.txt. (The bench run refuses a
-file of more than 36,895 bytes by 6 before it is read, so there the two may differ.)
+The text of a bench run is the one of these files. What the reader has to answer is worked out here, by a reader of pattern files
+of form 1 that shares nothing with the product, and held against the `refused N` lines. (The bench run refuses a file of more
+than 36,895 bytes by 6 before it is read, so there the two may differ.)
 
 An entry of vectors.bin: thirteen numbers of two bytes, high byte first; then the name, the text and the packed file.
 
@@ -29,6 +30,7 @@ import sys
 MAX_FILE = 36895
 REPEATED_FLAG = 32768  # added to the count in the head of a piece that repeats one byte
 MIN_RUN = 6  # a run of fewer bytes costs less among its neighbours
+NOW_OTHER = "base vector, now other: "
 
 
 def u16s(*values):
@@ -36,7 +38,7 @@ def u16s(*values):
 
 
 def unhexed(text):
-    """A file as bench.txt has it: pieces of hex, XX*n for a byte n times, - for no bytes."""
+    """A file as the vectors have it: pieces of hex, XX*n for a byte n times, - for no bytes."""
     file = b""
     for piece in [] if text == "-" else text.split(","):
         byte, times, count = piece.partition("*")
@@ -57,6 +59,22 @@ def vectors(path):
         elif line.startswith("= "):
             found[-1][2].append(line[2:])
     return found
+
+
+def with_later(found, later):
+    """The vectors, those of a later file behind them; one that is now other stands where it stood. And how many of these have
+    other lines: a later file may have a change of an earlier one again."""
+    found, replaced = list(found), 0
+    for name, file, lines in later:
+        if not name.startswith(NOW_OTHER):
+            found.append((name, file, lines))
+            continue
+        name = name[len(NOW_OTHER):]
+        places = [at for at, vector in enumerate(found) if vector[:2] == (name, file)]
+        assert len(places) == 1, f"{len(places)} vectors are called {name} and have its file"
+        replaced += found[places[0]][2] != lines
+        found[places[0]] = name, file, lines
+    return found, replaced
 
 
 class Refused(Exception):
@@ -155,8 +173,12 @@ def entry(name, file, lines):
     return u16s(len(name), len(text), len(pieces), *answer) + name.encode() + text.encode() + pieces
 
 
-def main(bench, target):
-    entries = [entry(*vector) for vector in vectors(bench)]
+def main(target, bench, *later):
+    found = vectors(bench)
+    for path in later:
+        found, replaced = with_later(found, vectors(path))
+        print(f"{path}: {replaced} vectors are now other")
+    entries = [entry(*vector) for vector in found]
     refused = sum(e[6:8] != u16s(0) for e in entries)
     out = b"".join(entries)
     open(target, "wb").write(out)

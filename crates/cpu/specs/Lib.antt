@@ -21,6 +21,7 @@ pub mod CpuInvariantLaws
 pub mod StepLaws
 pub mod MachineLaws
 pub mod WrtdStepLaws
+pub mod FillerLaws
 -- What private code is held to. No definition above mentions these two.
 pub mod PackedCpu
 pub mod Partition

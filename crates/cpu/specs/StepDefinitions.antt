@@ -1,4 +1,5 @@
--- Names for lists of definitions: `unfolding step-definitions` opens all that a step is made of, so that a worked case computes.
+-- Names for lists of definitions: `unfolding step-definitions` opens all that a step is made of, so that a worked case, or a law of one
+-- instruction, computes.
 -- Nothing here has to be believed.
 use Rattle.common.specs.Choice.{if_then_else_}
 use Rattle.cpu.specs.Address.{displacedOf, displacementOf, fetchOf, ifFetched, ifResolved, pointerOf, relativeOf, resolveOf}

@@ -1,5 +1,7 @@
--- Definitions that must be believed: the instruction of each first byte, as the manual's table of codes has it.
+-- Definitions that must be believed: the instruction of each first byte, as the manual's table of codes has it. Code 00 is as document 02
+-- has it (U4), and the unknown codes are document 01's.
 -- Codes come in 64 classes of four; the last two bits name a register or a condition, or tell four instructions apart.
+use mathlib.Core.Bool.{Bool, true, false}
 use mathlib.Core.List.{List, [], _∷_}
 use Prim.Native.Nat.{ℕ, _/_, _%_}
 use lib.Dec.{eqb}
@@ -33,7 +35,7 @@ restAndLast others d r = if eqb r 3 then d else others
 -- the 64 classes, in the order of their codes: each gives the instruction by the last two bits
 abbrev pub classes : List (ℕ → Instruction)
 classes =
-    firstAndRest Unknown (Operate Register (Read Lod)) ∷  -- 00 unknown, 01 LODZ
+    allFour (Operate Register (Read Lod)) ∷  -- 00 LODZ
     allFour (Operate Immediate (Read Lod)) ∷  -- 04 LODI
     allFour (Operate Relative (Read Lod)) ∷  -- 08 LODR
     allFour (Operate Absolute (Read Lod)) ∷  -- 0C LODA
@@ -102,6 +104,39 @@ classes =
 -- the first six bits say the class
 unfoldable pub decodeOf : ℕ → Instruction
 decodeOf op = getD classes (op / 4) (allFour Unknown) (op % 4)
+
+-- it is Unknown: no instruction has the code
+unfoldable pub isUnknown : Instruction → Bool
+isUnknown Unknown = true
+isUnknown ControlPort = false
+isUnknown ExtendedPort = false
+isUnknown (Operate mode access) = false
+isUnknown Strz = false
+isUnknown Nop = false
+isUnknown Halt = false
+isUnknown Spsu = false
+isUnknown Spsl = false
+isUnknown Lpsu = false
+isUnknown Lpsl = false
+isUnknown Cpsu = false
+isUnknown Cpsl = false
+isUnknown Ppsu = false
+isUnknown Ppsl = false
+isUnknown Tpsu = false
+isUnknown Tpsl = false
+isUnknown Tmi = false
+isUnknown Dar = false
+isUnknown Rrr = false
+isUnknown Rrl = false
+isUnknown Redd = false
+isUnknown Wrtd = false
+isUnknown Retc = false
+isUnknown Rete = false
+isUnknown (Branch mode kind) = false
+isUnknown Zbrr = false
+isUnknown Zbsr = false
+isUnknown Bxa = false
+isUnknown Bsxa = false
 
 -- how many bytes an instruction has: by the mode of its operand or of its branch
 abbrev pub modeLength : Mode → ℕ

@@ -135,12 +135,8 @@ impl Instruction {
         let r = op % 4;
         let class = op / 4;
         match class {
-            // 00 unknown, 01 LODZ
-            0 => first_and_rest(
-                Instruction::Unknown,
-                Instruction::Operate(Mode::Register, Access::Read(Operation::Lod)),
-                r,
-            ),
+            // 00 LODZ
+            0 => Instruction::Operate(Mode::Register, Access::Read(Operation::Lod)),
             // 04 LODI
             1 => Instruction::Operate(Mode::Immediate, Access::Read(Operation::Lod)),
             // 08 LODR

@@ -6,14 +6,11 @@ use borrow.Author.Needs.{needs}
 use Rattle.decode.proofs.decode.Instruction.decode.Statement.{statement}
 use Rattle.decode.proofs.decode.Instruction.decode.Tie as tie
 
-first-and-rest-requires : tie.Need-first-and-rest-requires
-first-and-rest-requires c κs = search needs
-
 each-of-four-requires : tie.Need-each-of-four-requires
 each-of-four-requires c κs = search needs
 
-first-and-rest-requires-2 : tie.Need-first-and-rest-requires-2
-first-and-rest-requires-2 c κs = search needs
+first-and-rest-requires : tie.Need-first-and-rest-requires
+first-and-rest-requires c κs = search needs
 
 each-of-four-requires-2 : tie.Need-each-of-four-requires-2
 each-of-four-requires-2 c κs = search needs
@@ -36,12 +33,12 @@ rest-and-last-requires-3 c κs = search needs
 rest-and-last-requires-4 : tie.Need-rest-and-last-requires-4
 rest-and-last-requires-4 c κs = search needs
 
-first-and-rest-requires-3 : tie.Need-first-and-rest-requires-3
-first-and-rest-requires-3 c κs = search needs
+first-and-rest-requires-2 : tie.Need-first-and-rest-requires-2
+first-and-rest-requires-2 c κs = search needs
 
 returns : tie.Need-returns
 unfolding decodeOf
-returns c = rw (c .before .match .keys1, ← c .first-and-rest .ensures)
+returns c = rw (c .match .keys1)
 
 returns-2 : tie.Need-returns-2
 unfolding decodeOf
@@ -57,7 +54,7 @@ returns-4 c = rw (c .match .keys4)
 
 returns-5 : tie.Need-returns-5
 unfolding decodeOf
-returns-5 c = rw (c .before .match .keys5, ← c .each-of-four .ensures)
+returns-5 c = rw (c .before .match .keys5) (c .each-of-four .ensures)
 
 returns-6 : tie.Need-returns-6
 unfolding decodeOf
@@ -105,7 +102,7 @@ returns-16 c = rw (c .match .keys16)
 
 returns-17 : tie.Need-returns-17
 unfolding decodeOf
-returns-17 c = rw (c .before .match .keys17, ← c .first-and-rest2 .ensures)
+returns-17 c = rw (c .before .match .keys17) (c .first-and-rest .ensures)
 
 returns-18 : tie.Need-returns-18
 unfolding decodeOf
@@ -157,7 +154,7 @@ returns-29 c = rw (c .match .keys29)
 
 returns-30 : tie.Need-returns-30
 unfolding decodeOf
-returns-30 c = rw (c .before .match .keys30, ← c .each-of-four2 .ensures)
+returns-30 c = rw (c .before .match .keys30) (c .each-of-four2 .ensures)
 
 returns-31 : tie.Need-returns-31
 unfolding decodeOf
@@ -185,7 +182,7 @@ returns-36 c = rw (c .match .keys36)
 
 returns-37 : tie.Need-returns-37
 unfolding decodeOf
-returns-37 c = rw (c .before .match .keys37, ← c .each-of-four3 .ensures)
+returns-37 c = rw (c .before .match .keys37) (c .each-of-four3 .ensures)
 
 returns-38 : tie.Need-returns-38
 unfolding decodeOf
@@ -193,11 +190,11 @@ returns-38 c = rw (c .match .keys38)
 
 returns-39 : tie.Need-returns-39
 unfolding decodeOf
-returns-39 c = rw (c .before .match .keys39, ← c .rest-and-last .ensures)
+returns-39 c = rw (c .before .match .keys39) (c .rest-and-last .ensures)
 
 returns-40 : tie.Need-returns-40
 unfolding decodeOf
-returns-40 c = rw (c .before .match .keys40, ← c .rest-and-last2 .ensures)
+returns-40 c = rw (c .before .match .keys40) (c .rest-and-last2 .ensures)
 
 returns-41 : tie.Need-returns-41
 unfolding decodeOf
@@ -221,19 +218,19 @@ returns-45 c = rw (c .match .keys45)
 
 returns-46 : tie.Need-returns-46
 unfolding decodeOf
-returns-46 c = rw (c .before .match .keys46, ← c .each-of-four4 .ensures)
+returns-46 c = rw (c .before .match .keys46) (c .each-of-four4 .ensures)
 
 returns-47 : tie.Need-returns-47
 unfolding decodeOf
-returns-47 c = rw (c .before .match .keys47, ← c .rest-and-last3 .ensures)
+returns-47 c = rw (c .before .match .keys47) (c .rest-and-last3 .ensures)
 
 returns-48 : tie.Need-returns-48
 unfolding decodeOf
-returns-48 c = rw (c .before .match .keys48, ← c .rest-and-last4 .ensures)
+returns-48 c = rw (c .before .match .keys48) (c .rest-and-last4 .ensures)
 
 returns-49 : tie.Need-returns-49
 unfolding decodeOf
-returns-49 c = rw (c .before .match .keys49, ← c .first-and-rest3 .ensures)
+returns-49 c = rw (c .before .match .keys49) (c .first-and-rest2 .ensures)
 
 returns-50 : tie.Need-returns-50
 unfolding decodeOf
@@ -299,9 +296,8 @@ pub decode-spec : {M : Type 1} → statement M
 decode-spec =
     tie.close
     (tie.spec
-    first-and-rest-requires
     each-of-four-requires
-    first-and-rest-requires-2
+    first-and-rest-requires
     each-of-four-requires-2
     each-of-four-requires-3
     rest-and-last-requires
@@ -309,7 +305,7 @@ decode-spec =
     each-of-four-requires-4
     rest-and-last-requires-3
     rest-and-last-requires-4
-    first-and-rest-requires-3
+    first-and-rest-requires-2
     returns
     returns-2
     returns-3
