@@ -1,5 +1,6 @@
 /* The bench program for hosts: runs a pattern file through the entry points of the proved archive. */
 #include "pattern_floor.h"
+#include "earlier.h"
 #include "listing.h"
 #include "product_level.h"
 #include "scripts.h"
@@ -14,6 +15,7 @@ static int usage(void)
             "usage: bench [FILE]          prints the two lines of a pattern file, or of standard input\n"
             "       bench --vectors DATA  makes the stored bench runs and compares\n"
             "       bench --scripts DATA  makes the calls of the stored scripts and compares\n"
+            "       bench --earlier DATA  takes over a system that an earlier version stored, runs it and compares\n"
             "       bench --speed DIR     prints instructions a second of the patterns in DIR, beside the reference's\n");
     return 2;
 }
@@ -49,6 +51,7 @@ int main(int argc, char **argv)
     if (argc == 1) return print_listing(stdin);
     if (argc == 3 && !strcmp(argv[1], "--vectors")) return vectors(argv[2]);
     if (argc == 3 && !strcmp(argv[1], "--scripts")) return scripts(argv[2]);
+    if (argc == 3 && !strcmp(argv[1], "--earlier")) return earlier(argv[2]);
     if (argc == 3 && !strcmp(argv[1], "--speed")) return speed(argv[2]);
     if (argc == 2 && argv[1][0] != '-') return print_listing_of(argv[1]);
     return usage();

@@ -1,6 +1,7 @@
 #include "calls.h"
 #include "codec.h"
 #include "files.h"
+#include "product_level.h"
 #include "programs.h"
 #include "random.h"
 #include "tables.h"
@@ -9,7 +10,7 @@
 
 const char *const call_names[CALL_KINDS] = {
     "pf_new", "pf_load", "pf_unload", "pf_feed", "pf_drain", "pf_run", "pf_report", "pf_backlog", "pf_fit",
-    "pf_read", "pf_code", "pf_input", "pf_write"
+    "pf_upgrade", "pf_read", "pf_code", "pf_input", "pf_write"
 };
 
 #define BIT(n) (1u << (n))
@@ -31,6 +32,7 @@ const uint32_t call_refusals[CALL_KINDS] = {
     [CALL_REPORT] = BIT(0) | BIT(PF_NOT_SOUND) | BIT(PF_NO_SLOT) | BIT(PF_EMPTY) | BIT(PF_SHORT),
     [CALL_BACKLOG] = BIT(0) | BIT(PF_NOT_SOUND) | BIT(PF_SHORT),
     [CALL_FIT] = BIT(0) | BIT(PF_NOT_SOUND) | BIT(PF_SIZE) | BIT(PF_NO_EXTENT),
+    [CALL_UPGRADE] = BIT(0) | BIT(PF_NOT_SOUND) | BIT(PF_SHORT),
     [CALL_READ] = READER_REFUSALS | BIT(PF_SHORT),
     [CALL_CODE] = READER_REFUSALS,
     [CALL_INPUT] = READER_REFUSALS,
@@ -405,6 +407,59 @@ static void make_fit(call *c, system_pair *both)
     c->expected = start;
 }
 
+/* What is to be taken over: the system's table, or one that is no system's; sometimes damaged. */
+static ref_table random_old_table(const system_pair *both)
+{
+    ref_table table = both->reference_table;
+    if (random_one_in(2)) (random_one_in(4) ? table_random_counts : table_random_extents)(&table);
+    if (random_one_in(4)) table_damage(&table);
+    return table;
+}
+
+/* A table in one of its two forms, or what a buffer of another length holds of it; sometimes random bytes. */
+static buffer_pair *lend_old_table(call *c, const ref_table *table)
+{
+    /* the last four are a form's length plus 256 or 65,536: one that is cut to fewer bits would be taken */
+    const size_t odd[] = { 0, 1, 363, PF_UNCOUNTED_TABLE_BYTES, 365, 371, PF_TABLE_BYTES, 373, 736, random_below(800),
+                           620, 628, 65900, 65908 };
+    const size_t form = random_one_in(2) ? PF_UNCOUNTED_TABLE_BYTES : PF_TABLE_BYTES;
+    uint8_t bytes[PF_TABLE_BYTES];
+    (form == PF_UNCOUNTED_TABLE_BYTES ? encode_uncounted_table : encode_table)(table, bytes);
+    buffer_pair *old = lend_buffer(c, "old", random_one_in(8) ? RANDOM_OF(odd) : form);
+    if (!random_one_in(16)) memcpy(old->reference, bytes, smaller(form, old->length));
+    buffer_pair_copy_to_product(old);
+    return old;
+}
+
+/* Of a table in the old form the reference tests all but the free bytes, as it did before it had them. These are then
+ * counted. Answers whether the table is sound by the rules of its version. */
+static int take_over(const buffer_pair *old, ref_table *table)
+{
+    enum { UNCOUNTED_LEVEL = 4 };     /* the last of document 02's requests before the one that added them */
+    if (old->length == PF_TABLE_BYTES) {
+        decode_table(old->reference, table);
+        return ref_sound(table);
+    }
+    if (old->length != PF_UNCOUNTED_TABLE_BYTES) return 0;
+    decode_uncounted_table(old->reference, table);
+    ref_level = UNCOUNTED_LEVEL;
+    int sound = ref_sound(table);
+    ref_level = PRODUCT_LEVEL;
+    table_count_free(table);
+    return sound;
+}
+
+static void make_upgrade(call *c, system_pair *both)
+{
+    ref_table table = random_old_table(both);
+    buffer_pair *old = lend_old_table(c, &table);
+    c->table = lend_buffer(c, "table", random_one_in(8) ? random_other_length(PF_TABLE_BYTES) : PF_TABLE_BYTES);
+    c->answer = pf_upgrade(PRODUCT_ARGS(old), PRODUCT_ARGS(c->table));
+    c->refusal = !take_over(old, &table) ? PF_NOT_SOUND : !has_full_table(c) ? PF_SHORT : 0;
+    c->taken_over = !c->refusal && old->length == PF_UNCOUNTED_TABLE_BYTES;
+    if (!c->refusal) encode_table(&table, c->table->reference);
+}
+
 /* ---- calls with a file */
 
 static size_t random_file_memory(void) { return random_one_in(30) ? PF_PARTITION_MOST : random_between(3, 600); }
@@ -519,6 +574,7 @@ static void make_kind(call *c, system_pair *both)
     case CALL_REPORT: make_report(c, both); break;
     case CALL_BACKLOG: make_backlog(c, both); break;
     case CALL_FIT: make_fit(c, both); break;
+    case CALL_UPGRADE: make_upgrade(c, both); break;
     case CALL_READ: make_read(c); break;
     case CALL_WRITE: make_write(c); break;
     default: make_stretch(c); break;
@@ -544,6 +600,20 @@ static int breaks_promise(const call *c)
     return c->fitted && (pf_refusal(c->answer) == PF_PAST_END || pf_refusal(c->answer) == PF_MEETS);
 }
 
+/* The two numbers for a display, in the product's bytes, beside what its partitions leave. */
+static difference free_bytes_difference(const buffer_pair *table)
+{
+    const uint8_t *bytes = table->product.bytes;
+    ref_table counted;
+    decode_table(bytes, &counted);
+    table_count_free(&counted);
+    if (pf_free(bytes) != counted.free)
+        return (difference){ "not as counted", "pf_free", NO_OFFSET, pf_free(bytes), counted.free };
+    if (pf_widest(bytes) != counted.widest)
+        return (difference){ "not as counted", "pf_widest", NO_OFFSET, pf_widest(bytes), counted.widest };
+    return (difference){ NULL, table->name, 0, 0, 0 };
+}
+
 difference call_difference(const call *c, system_pair *both)
 {
     int refused = c->refusal != 0;
@@ -553,6 +623,7 @@ difference call_difference(const call *c, system_pair *both)
     difference d = buffer_pair_difference(&both->table, refused);
     if (!d.what) d = buffer_pair_difference(&both->memory, refused);
     for (size_t i = 0; i < c->buffer_count && !d.what; i++) d = buffer_pair_difference(&c->buffers[i], refused);
+    if (!d.what && !refused && c->table) d = free_bytes_difference(c->table);
     return d;
 }
 

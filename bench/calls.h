@@ -14,7 +14,7 @@ typedef struct {
 
 enum call_kind {
     CALL_NEW, CALL_LOAD, CALL_UNLOAD, CALL_FEED, CALL_DRAIN, CALL_RUN, CALL_REPORT, CALL_BACKLOG, CALL_FIT,
-    CALL_READ, CALL_CODE, CALL_INPUT, CALL_WRITE, CALL_KINDS
+    CALL_UPGRADE, CALL_READ, CALL_CODE, CALL_INPUT, CALL_WRITE, CALL_KINDS
 };
 
 extern const char *const call_names[CALL_KINDS];
@@ -29,7 +29,8 @@ typedef struct {
     size_t slot, location, length, size;
     uint16_t rounds;
     int fitted;                 /* pf_fit told the location of this load */
-    buffer_pair *table, *memory;       /* the system's, or one of another length among those lent */
+    int taken_over;             /* pf_upgrade was given a table of an earlier version, and took it */
+    buffer_pair *table, *memory;       /* the system's, or one among those lent: for pf_upgrade the new table */
     buffer_pair buffers[MAX_BUFFERS];       /* buffers for this call alone */
     size_t buffer_count;
     uint32_t answer, expected;

@@ -32,10 +32,19 @@ static uint8_t *put_slot(uint8_t *p, const ref_slot *s)
     return put_u16(put_u16(put_u16(p, s->filled), s->read), s->written);
 }
 
+static void put_slots(uint8_t *p, const ref_table *table)
+{
+    for (int k = 0; k < SLOTS; k++) p = put_slot(p, &table->slots[k]);
+}
+
 void encode_table(const ref_table *table, uint8_t *bytes)
 {
-    bytes = put_u32(bytes, table->memory_length);
-    for (int k = 0; k < SLOTS; k++) bytes = put_slot(bytes, &table->slots[k]);
+    put_slots(put_u32(put_u32(put_u32(bytes, table->memory_length), table->free), table->widest), table);
+}
+
+void encode_uncounted_table(const ref_table *table, uint8_t *bytes)
+{
+    put_slots(put_u32(bytes, table->memory_length), table);
 }
 
 static uint8_t get_u8(const uint8_t **p) { return *(*p)++; }
@@ -74,6 +83,15 @@ static void get_slot(const uint8_t **p, ref_slot *s)
 
 /* The table is zeroed first: the reference has fields for later requests, which no bytes of a table hold. */
 void decode_table(const uint8_t *bytes, ref_table *table)
+{
+    memset(table, 0, sizeof *table);
+    table->memory_length = get_u32(&bytes);
+    table->free = get_u32(&bytes);
+    table->widest = get_u32(&bytes);
+    for (int k = 0; k < SLOTS; k++) get_slot(&bytes, &table->slots[k]);
+}
+
+void decode_uncounted_table(const uint8_t *bytes, ref_table *table)
 {
     memset(table, 0, sizeof *table);
     table->memory_length = get_u32(&bytes);

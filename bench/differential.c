@@ -22,7 +22,7 @@ typedef struct {
 } run_length;
 
 typedef struct {
-    uint64_t lists, calls, steps, damaged, still_sound, written_from_outside, loaded_where_fitted;
+    uint64_t lists, calls, steps, damaged, still_sound, written_from_outside, loaded_where_fitted, taken_over;
     uint64_t met[CALL_KINDS][REFUSAL_COUNT];
     uint64_t statuses[8];           /* of all slots after each pf_run that was done */
 } counts;
@@ -155,7 +155,7 @@ static void catch_faults(void)
 
 static enum call_kind random_kind(const ref_table *table)
 {
-    static const uint8_t shares[CALL_KINDS] = { 1, 22, 8, 12, 12, 23, 4, 4, 5, 2, 2, 2, 3 };
+    static const uint8_t shares[CALL_KINDS] = { 1, 21, 8, 11, 11, 22, 4, 4, 5, 4, 2, 2, 2, 3 };
     size_t n = random_below(100), k = 0, taken = 0;
     while (n >= shares[k]) n -= shares[k++];
     for (size_t i = 0; i < SLOTS; i++) taken += table->slots[i].status != ST_EMPTY;
@@ -168,6 +168,7 @@ static void count(const call *c, const system_pair *both, counts *n)
     n->steps += c->steps;
     n->met[c->kind][c->refusal % REFUSAL_COUNT]++;
     n->loaded_where_fitted += c->fitted && !c->refusal;
+    n->taken_over += c->taken_over != 0;
     if (c->kind != CALL_RUN || c->refusal) return;
     for (size_t k = 0; k < SLOTS; k++) n->statuses[both->reference_table.slots[k].status & 7]++;
 }
@@ -241,6 +242,7 @@ static void print_counts(const run_length *w, const counts *n)
     printf("slots after pf_run, by status:");
     for (int s = 0; s < 8; s++) printf(" %d: %" PRIu64 "%s", s, n->statuses[s], s < 7 ? "," : "\n");
     printf("loaded where pf_fit said: %" PRIu64 " times\n", n->loaded_where_fitted);
+    printf("tables of earlier versions taken over by pf_upgrade: %" PRIu64 "\n", n->taken_over);
     printf("tables damaged: %" PRIu64 ", of these still sound: %" PRIu64 "\n", n->damaged, n->still_sound);
     printf("memory written from outside: %" PRIu64 " times\n", n->written_from_outside);
 }
@@ -270,6 +272,13 @@ static int statuses_missing(const counts *n)
     return missing;
 }
 
+static int upgrades_missing(const counts *n)
+{
+    if (n->taken_over || n->calls < FULL_RUN) return 0;
+    printf("NOT MET: a table of an earlier version taken over\n");
+    return 1;
+}
+
 static int compare(const char *program, const run_length *w)
 {
     static counts n;
@@ -278,7 +287,7 @@ static int compare(const char *program, const run_length *w)
     for (uint64_t seed = w->seed; !enough(&n, w); seed = next_seed(seed))
         if (!run_list(seed, w, &n)) return 1;
     print_counts(w, &n);
-    return refusals_missing(&n) | statuses_missing(&n);
+    return refusals_missing(&n) | statuses_missing(&n) | upgrades_missing(&n);
 }
 
 int main(int argc, char **argv)

@@ -5,13 +5,18 @@
 #include <string.h>
 
 /* The kinds of entries, numbered as in make_data.py. */
-enum { NEW_SCRIPT, NEW, LEND, POKE, UNPOKE, LOAD, UNLOAD, FEED, DRAIN, RUN, REPORT, STATE, DRAIN_LENT, BACKLOG, FIT };
+enum { NEW_SCRIPT, NEW, LEND, POKE, UNPOKE, LOAD, UNLOAD, FEED, DRAIN, RUN, REPORT, STATE, DRAIN_LENT, BACKLOG, FIT, FREE };
 
 enum {
     HEADER_LENGTH = 20,     /* the numbers before an entry's bytes */
-    SLOTS_OFFSET = 4,       /* where slot 0 stands in a table's bytes */
+    TABLE_NUMBERS = 3,      /* the table's own, in front of its slots: the memory's length, the free total and the widest */
+    NUMBER_BYTES = 4,       /* of each of them */
+    SLOTS_OFFSET = TABLE_NUMBERS * NUMBER_BYTES,    /* where slot 0 stands in a table's bytes */
     SLOT_BYTES = 45,
-    SLOT_FIELDS = 27,       /* the number behind them, in a poke, is the memory's length */
+    SLOT_FIELDS = 27,       /* the numbers behind them, in a poke, are the table's own */
+    SLOT_NUMBERS = SLOT_FIELDS * 2,                 /* the bytes of a slot in a state */
+    FREE_NUMBERS = 2 * NUMBER_BYTES,                /* the bytes in front of the slots: the free total and the widest */
+    STATE_LENGTH = FREE_NUMBERS + PF_SLOTS * SLOT_NUMBERS,
     REPORT_FIELDS = 11,
     SIZE_LENGTH = 8,        /* the bytes of a fit: its size */
     UNTOUCHED = 0xEE,       /* what a lent buffer holds before the call */
@@ -20,9 +25,10 @@ enum {
 
 typedef struct {
     unsigned kind, line, slot, refusal;
-    uint32_t number;        /* a location, the length of a memory or a buffer, rounds, a field's value or a check sum */
+    uint32_t number;        /* a location, the length of a memory or a buffer, rounds, a field's value, a check sum, the free total */
     unsigned field;         /* or the count, of a fit the start, that is wanted */
     size_t length;
+    unsigned flag;          /* a poke: of the same group as the poke before it; a state: it has the two numbers about free bytes */
     const uint8_t *bytes;
 } entry;
 
@@ -47,11 +53,15 @@ static uint32_t u32_at(const uint8_t *p) { return (uint32_t)u16_at(p) << 16 | u1
 static entry entry_at(const uint8_t *p)
 {
     return (entry){ u16_at(p), u16_at(p + 2), u16_at(p + 4), u16_at(p + 6), u32_at(p + 8),
-                    u16_at(p + 12), u16_at(p + 14), p + HEADER_LENGTH };
+                    u16_at(p + 12), u16_at(p + 14), u16_at(p + 16), p + HEADER_LENGTH };
 }
 
 static size_t entry_length(const entry *e) { return HEADER_LENGTH + e->length; }
-static int is_call(const entry *e) { return e->kind == NEW || (e->kind >= LOAD && e->kind != STATE); }
+
+static int is_call(const entry *e)
+{
+    return e->kind == NEW || (e->kind >= LOAD && e->kind != STATE && e->kind != FREE);
+}
 
 /* ---- numbers in bytes, high byte first */
 
@@ -97,6 +107,26 @@ static int numbers_agree(const uint8_t *bytes, const field *fields, unsigned cou
 /* ---- the table and its memory */
 
 static uint8_t *slot_bytes(unsigned slot) { return table + SLOTS_OFFSET + SLOT_BYTES * slot; }
+static const uint8_t *wanted_slot(const entry *e, unsigned slot) { return e->bytes + FREE_NUMBERS + SLOT_NUMBERS * slot; }
+
+/* A slot's field, by its place in slot_fields. */
+static uint32_t slot_field(const uint8_t *slot, unsigned i)
+{
+    return (uint32_t)number_at(slot + slot_fields[i].offset, slot_fields[i].width);
+}
+
+static int slot_agrees(const entry *e, unsigned slot)
+{
+    return numbers_agree(slot_bytes(slot), slot_fields, SLOT_FIELDS, wanted_slot(e, slot));
+}
+
+/* The two numbers about free bytes; a state of a script from before U5 has none. */
+static int free_agrees(const entry *e)
+{
+    if (e->kind == FREE)
+        return e->length == NUMBER_BYTES && pf_free(table) == e->number && pf_widest(table) == u32_at(e->bytes);
+    return !e->flag || (pf_free(table) == u32_at(e->bytes) && pf_widest(table) == u32_at(e->bytes + NUMBER_BYTES));
+}
 
 static uint32_t crc32(const uint8_t *p, size_t length)
 {
@@ -110,9 +140,9 @@ static uint32_t crc32(const uint8_t *p, size_t length)
 
 static int state_agrees(const entry *e)
 {
-    if (e->length != PF_SLOTS * SLOT_FIELDS * 2 || crc32(memory, PF_MEMORY_MOST) != e->number) return 0;
+    if (e->length != STATE_LENGTH || crc32(memory, PF_MEMORY_MOST) != e->number || !free_agrees(e)) return 0;
     for (unsigned k = 0; k < PF_SLOTS; k++)
-        if (!numbers_agree(slot_bytes(k), slot_fields, SLOT_FIELDS, e->bytes + k * SLOT_FIELDS * 2)) return 0;
+        if (!slot_agrees(e, k)) return 0;
     return 1;
 }
 
@@ -129,6 +159,18 @@ static pf_answer make_new(size_t length)
     return made;
 }
 
+/* Puts the two numbers about free bytes into a table that has slot 0 alone; an empty slot has a partition of no bytes. Where it
+ * does not lie in the memory, any two numbers do: the slot is not sound. */
+static void put_free(uint8_t *alone, uint32_t length)
+{
+    const uint8_t *slot = alone + SLOTS_OFFSET;
+    uint32_t base = slot_field(slot, 0);
+    uint32_t size = slot_field(slot, 1) + slot_field(slot, 2) + slot_field(slot, 3);
+    uint32_t behind = length - base - size;
+    put_number(alone + NUMBER_BYTES, NUMBER_BYTES, length - size);
+    put_number(alone + 2 * NUMBER_BYTES, NUMBER_BYTES, base > behind ? base : behind);
+}
+
 /* Draining over one slot that is lent has no entry point: the slot is drained as the only one of a table, as
  * crates/lend has it. */
 static pf_answer drain_lent(unsigned slot, size_t room)
@@ -136,6 +178,7 @@ static pf_answer drain_lent(unsigned slot, size_t room)
     uint8_t alone[PF_TABLE_BYTES];
     if (pf_refusal(pf_new(alone, sizeof alone, lent_length))) return (pf_answer)PF_NOT_SOUND << 16;
     memcpy(alone + SLOTS_OFFSET, slot_bytes(slot), SLOT_BYTES);
+    put_free(alone, (uint32_t)lent_length);
     pf_answer drained = pf_drain(alone, sizeof alone, MEMORY, 0, buffer, room);
     memcpy(slot_bytes(slot), alone + SLOTS_OFFSET, SLOT_BYTES);
     return drained;
@@ -244,9 +287,9 @@ static void begin_script(void)
 
 static void poke(const entry *e)
 {
-    memcpy(table_before_poke, table, sizeof table);
-    if (e->field == SLOT_FIELDS) {
-        put_number(table, 4, e->number);
+    if (!e->flag) memcpy(table_before_poke, table, sizeof table);
+    if (e->field >= SLOT_FIELDS && e->field < SLOT_FIELDS + TABLE_NUMBERS) {
+        put_number(table + (e->field - SLOT_FIELDS) * NUMBER_BYTES, NUMBER_BYTES, e->number);
     } else if (e->slot < PF_SLOTS && e->field < SLOT_FIELDS) {
         const field *f = &slot_fields[e->field];
         put_number(slot_bytes(e->slot) + f->offset, f->width, e->number);
@@ -262,6 +305,7 @@ static int entry_agrees(const entry *e, tally *t)
     case LEND: lent_length = e->number; return 1;
     case POKE: poke(e); return 1;
     case UNPOKE: memcpy(table, table_before_poke, sizeof table); return 1;
+    case FREE: return free_agrees(e);
     default: t->states++; return state_agrees(e);
     }
 }
@@ -277,14 +321,15 @@ static void print_report(void)
     }
 }
 
+static void print_free(void) { printf("; free %u, widest %u", (unsigned)pf_free(table), (unsigned)pf_widest(table)); }
+
 /* The slots that differ, in decimal, as a script has them. */
 static void print_slots(const entry *e)
 {
-    for (unsigned k = 0; k < PF_SLOTS && e->length == PF_SLOTS * SLOT_FIELDS * 2; k++) {
-        if (numbers_agree(slot_bytes(k), slot_fields, SLOT_FIELDS, e->bytes + k * SLOT_FIELDS * 2)) continue;
+    for (unsigned k = 0; k < PF_SLOTS && e->length == STATE_LENGTH; k++) {
+        if (slot_agrees(e, k)) continue;
         printf("\n    st %u:", k);
-        for (unsigned i = 0; i < SLOT_FIELDS; i++)
-            printf(" %u", (unsigned)number_at(slot_bytes(k) + slot_fields[i].offset, slot_fields[i].width));
+        for (unsigned i = 0; i < SLOT_FIELDS; i++) printf(" %u", (unsigned)slot_field(slot_bytes(k), i));
     }
 }
 
@@ -295,6 +340,7 @@ static void count_difference(const entry *e, tally *t)
         printf(", wanted %u and count %u, answered %u and count %u", e->refusal, e->field, pf_refusal(t->answer),
                pf_count(t->answer));
     if (e->kind == REPORT) print_report();
+    if (e->kind == FREE || e->kind == STATE) print_free();
     if (e->kind == STATE) print_slots(e);
     printf("\n");
     t->different++;

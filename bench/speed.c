@@ -8,7 +8,7 @@
 #include <string.h>
 
 /* A machine alone, and rounds of 1, 2 and 8 slots: each at quanta of 255 and of 1. */
-enum { QUANTA = 2, SETUPS = 4, ALONE = 0, SWEEPS = 20, RUNS = 21, STEPS = 60000, MAX_PATTERNS = 64 };
+enum { QUANTA = 2, SETUPS = 4, ALONE = 0, SWEEPS = 20, RUNS = 21, STEPS = 60000, CALLS = 1000, MAX_PATTERNS = 64 };
 static const uint8_t quanta[QUANTA] = { 255, 1 };
 static const unsigned slots_in_setup[SETUPS] = { 0, 1, 2, 8 };
 
@@ -26,6 +26,13 @@ typedef struct {
 } row;
 
 static row rows[MAX_PATTERNS];
+
+/* Calls of pf_run that run nothing. */
+static struct {
+    timing best;
+    const char *different;
+    int not_timed;
+} no_rounds = { { 1e9, 1e9, 0 }, NULL, 0 };
 
 static void keep_best(timing *best, double start, double middle, double end)
 {
@@ -83,6 +90,25 @@ static void time_row(row *r)
         }
 }
 
+/* What a call costs before its first round: eight slots are loaded, and 0 rounds asked for. One call is too short for the clock. */
+static void time_no_rounds(const pattern *p)
+{
+    static timed_systems loaded, both;
+    no_rounds.not_timed |= !timed_systems_load(&loaded, p, PF_SLOTS, quanta[0]);
+    for (int i = 0; i < RUNS && !no_rounds.not_timed && !no_rounds.different; i++) {
+        pf_answer answers = 0, reference_answers = 0;
+        both = loaded;
+        double start = seconds_now();
+        for (int k = 0; k < CALLS; k++)
+            reference_answers |= (pf_answer)ref_run(&both.reference_table, both.reference_memory, sizeof both.reference_memory, 0);
+        double middle = seconds_now();
+        for (int k = 0; k < CALLS; k++) answers |= pf_run(both.table, sizeof both.table, both.memory, sizeof both.memory, 0);
+        keep_best(&no_rounds.best, start, middle, seconds_now());
+        no_rounds.different = answers || reference_answers ? "an answer"
+            : memcmp(both.table, loaded.table, sizeof both.table) ? "a byte of the table" : timed_systems_difference(&both);
+    }
+}
+
 static double ratio(const timing *t) { return t->reference / t->product; }
 static double rate(const timing *t, double seconds) { return t->steps / seconds / 1e6; }
 
@@ -113,6 +139,19 @@ static int print_row(const row *r)
     }
     printf("\n");
     return 0;
+}
+
+static double nanoseconds_of_call(double seconds) { return seconds / CALLS * 1e9; }
+
+static int print_no_rounds(void)
+{
+    const timing *t = &no_rounds.best;
+    printf("\npf_run of 0 rounds, 8 slots loaded:");
+    if (no_rounds.different) printf(" DIFFERENT: %s\n", no_rounds.different);
+    else if (no_rounds.not_timed) printf(" the first pattern does not fit eight times: not timed\n");
+    else printf(" %.2f; nanoseconds of a call of the product (of the reference): %.0f (%.0f)\n", ratio(t),
+                nanoseconds_of_call(t->product), nanoseconds_of_call(t->reference));
+    return no_rounds.different != NULL;
 }
 
 static void print_head(void)
@@ -153,10 +192,13 @@ int speed(const char *directory)
     for (int i = 0; i < count; i++)
         if (!read_row(&rows[i], directory, names[i]->d_name)) return 2;
     /* several sweeps over all patterns: another program's busy second then spoils no pattern's number */
-    for (int sweep = 0; sweep < SWEEPS; sweep++)
+    for (int sweep = 0; sweep < SWEEPS; sweep++) {
         for (int i = 0; i < count; i++) time_row(&rows[i]);
+        time_no_rounds(&rows[0].pattern);
+    }
     print_head();
     for (int i = 0; i < count; i++) failed |= print_row(&rows[i]);
+    failed |= print_no_rounds();
     for (int i = 0; i < found; i++) free(names[i]);
     free(names);
     return failed;

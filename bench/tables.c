@@ -12,6 +12,26 @@ size_t partition_end(const ref_slot *s) { return s->base + partition_size(s); }
 
 static size_t smaller(size_t a, size_t b) { return a < b ? a : b; }
 
+/* ---- free bytes */
+
+/* The map has a byte for each of the longest memory: what an unsound table has behind it is left out. */
+void table_count_free(ref_table *table)
+{
+    static uint8_t taken[MEMORY_MAX];
+    uint32_t run = 0;
+    memset(taken, 0, sizeof taken);
+    for (size_t k = 0; k < SLOTS; k++) {
+        const ref_slot *s = &table->slots[k];
+        for (size_t i = s->base; s->status != ST_EMPTY && i < smaller(partition_end(s), MEMORY_MAX); i++) taken[i] = 1;
+    }
+    table->free = table->widest = 0;
+    for (size_t i = 0; i < smaller(table->memory_length, MEMORY_MAX); i++) {
+        run = taken[i] ? 0 : run + 1;
+        table->free += !taken[i];
+        if (run > table->widest) table->widest = run;
+    }
+}
+
 /* ---- sound tables */
 
 /* anywhere, most often inside the window, often where a page ends */
@@ -85,6 +105,7 @@ void table_random(ref_table *table, uint8_t *memory, size_t length)
         location = random_partition(s, location, length);
         program_fill(memory + s->base, s->window);
     }
+    table_count_free(table);
 }
 
 /* How many bytes were put out, and a capacity for them. Counts are often equal, or differ in one of their bytes. */
@@ -109,6 +130,7 @@ void table_random_counts(ref_table *table)
         random_partition(s, i * stride, i * stride + stride - MAX_CAPACITY);
         random_count(s);
     }
+    table_count_free(table);
 }
 
 /* The length of a free extent, or 0 for none: often the same one. */
@@ -131,24 +153,27 @@ static void lengthen_memory(ref_table *table)
     table->memory_length = MEMORY_MAX;
 }
 
-/* Partitions one behind the other, with an extent or none before each of them and behind the last. What the extents do
- * not take of the longest memory is room for partitions. */
+/* Partitions one behind the other, with an extent or none before each of them and behind the last; some tables have no
+ * extent at all, and some no partition. What the extents do not take of the longest memory is room for partitions. */
 void table_random_extents(ref_table *table)
 {
     const size_t length = random_between(1, random_one_in(4) ? 7000 : 40);
     const size_t first = random_below(SLOTS), step = 1 + 2 * random_below(4);
+    const int full = random_one_in(8), empty = random_one_in(8);
     size_t location = 0, room = MEMORY_MAX - (SLOTS + 1) * (length + 1);
     memset(table, 0, sizeof *table);
     for (size_t i = 0; i < SLOTS; i++) {
         ref_slot *s = &table->slots[(first + i * step) % SLOTS];
-        location += random_extent(length);
-        if (random_one_in(8) || room < 3) continue;
+        if (!full) location += random_extent(length);
+        if (empty || random_one_in(8) || room < 3) continue;
         random_partition_at(s, location, room);
         location += partition_size(s);
         room -= partition_size(s);
     }
-    table->memory_length = (uint32_t)(location + random_extent(length));
-    if (random_one_in(4) || !table->memory_length) lengthen_memory(table);
+    if (!full) location += random_extent(length);
+    table->memory_length = (uint32_t)location;
+    if ((!full && random_one_in(4)) || !location) lengthen_memory(table);
+    table_count_free(table);
 }
 
 /* ---- damaged tables */
@@ -228,11 +253,35 @@ static void set_relation(ref_table *table, ref_slot *s)
     }
 }
 
+/* A partition moved, or its window made longer or shorter, mostly by one byte: it is often still inside the memory, and
+ * meets no other. */
+static void move_partition(ref_slot *s)
+{
+    const uint32_t by = (uint32_t)random_between(1, random_one_in(2) ? 1 : 40);
+    switch (random_below(4)) {
+    case 0: s->base += by; break;
+    case 1: s->base -= by; break;
+    case 2: s->window = (s->window + by) & 0xFFFF; break;
+    default: s->window = (s->window - by) & 0xFFFF; break;
+    }
+}
+
+/* How many bytes are free, or how long the widest extent is: one more or less, another number of the table, without its
+ * upper half, or any. */
+static void set_free_bytes(ref_table *table)
+{
+    uint32_t *n = random_one_in(2) ? &table->free : &table->widest;
+    const uint32_t numbers[] = { *n + 1, *n + 1, *n - 1, *n - 1, table->free, table->widest, table->memory_length,
+                                 *n ^ 65536, *n & 65535, 0, UINT32_MAX, (uint32_t)random64(),
+                                 (uint32_t)random_below(table->memory_length + (size_t)1) };
+    *n = RANDOM_OF(numbers);
+}
+
 static void change_byte(ref_table *table)
 {
     uint8_t bytes[PF_TABLE_BYTES];
     encode_table(table, bytes);
-    size_t at = random_one_in(8) ? random_below(4) : random_below(sizeof bytes);
+    size_t at = random_one_in(8) ? random_below(12) : random_below(sizeof bytes);
     bytes[at] = random_one_in(2) ? (uint8_t)random64() : (uint8_t)(bytes[at] ^ 1u << random_below(8));
     decode_table(bytes, table);
 }
@@ -252,14 +301,25 @@ static void exchange(ref_slot *a, ref_slot *b)
     if (random_one_in(2)) *b = old;
 }
 
-void table_damage(ref_table *table)
+static void change_table(ref_table *table, ref_slot *s)
 {
-    ref_slot *s = &table->slots[random_below(SLOTS)];
-    switch (random_below(12)) {
+    switch (random_below(14)) {
     case 0: case 1: case 2: change_byte(table); break;
     case 3: case 4: case 5: case 6: set_edge(table, s); break;
     case 7: case 8: case 9: set_relation(table, s); break;
     case 10: exchange(s, &table->slots[random_below(SLOTS)]); break;
+    case 11: case 12: move_partition(s); break;
     default: if (random_one_in(4)) change_all(table); else set_edge(table, s); break;
     }
+}
+
+/* Half of the changed tables get their free bytes counted anew: only the rest can then be wrong. */
+void table_damage(ref_table *table)
+{
+    if (random_one_in(6)) {
+        set_free_bytes(table);
+        return;
+    }
+    change_table(table, &table->slots[random_below(SLOTS)]);
+    if (random_one_in(2)) table_count_free(table);
 }

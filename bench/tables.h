@@ -13,8 +13,12 @@ void table_random_counts(ref_table *table);
  * equally long. */
 void table_random_extents(ref_table *table);
 
-/* One thing changed: what comes out may be sound. */
+/* One thing changed, and sometimes the table's free bytes with it: what comes out may be sound. */
 void table_damage(ref_table *table);
+
+/* Stores how many bytes are free, and the longest run of them, in any table. They are counted byte by byte on a map of
+ * the memory: another way than the reference's, which goes over the partitions in order. */
+void table_count_free(ref_table *table);
 
 size_t partition_size(const ref_slot *s);
 size_t partition_end(const ref_slot *s);

@@ -3,7 +3,8 @@
  *     host FIRST.pat SECOND.pat
  *
  * Each is loaded where it fits, and both run by turns. The second is fed a text, a few bytes whenever it wants input; what each puts out
- * is printed in hexadecimal, the one with more bytes first. */
+ * is printed in hexadecimal, the one with more bytes first. At the end the first is unloaded. How much memory is free is printed after
+ * the loads and after that. */
 #include <pattern_floor.h>
 #include <stdio.h>
 #include <string.h>
@@ -61,6 +62,12 @@ static void drain_backlog(void)
         if (backlog[at + 1] || backlog[at + 2]) drain(backlog[at]);
 }
 
+/* For the wall display, which needs only the table's bytes and the header. */
+static void show_free(void)
+{
+    printf("free: %u bytes, the widest extent %u\n", (unsigned)pf_free(table), (unsigned)pf_widest(table));
+}
+
 /* Whether one of them runs, or the second waits while text is left. */
 static int working(const char *text)
 {
@@ -77,6 +84,7 @@ int main(int argc, char **argv)
     }
     pf_new(table, sizeof table, sizeof memory);
     if (!load(argv[1], 0) || !load(argv[2], 1)) return 1;
+    show_free();
     for (int turn = 0; turn < 1000 && working(text); turn++) {
         pf_run(table, sizeof table, memory, sizeof memory, 30);
         drain_backlog();
@@ -86,5 +94,7 @@ int main(int argc, char **argv)
             text += piece;
         }
     }
+    pf_unload(table, sizeof table, memory, sizeof memory, 0);
+    show_free();
     return 0;
 }

@@ -32,7 +32,8 @@ typedef uint32_t pf_answer;
 
 /* Refusals. */
 enum {
-    PF_NOT_SOUND = 1,       /* the table's buffer is not of PF_TABLE_BYTES, or holds no sound table */
+    PF_NOT_SOUND = 1,       /* the table's buffer is not of PF_TABLE_BYTES, or holds no sound table; for pf_upgrade, the old bytes are of no
+                               form that it takes, or hold no table that is sound by the rules of their version */
     PF_OTHER_LENGTH = 2,    /* the memory is not as long as the table says; for a new table, not 1 to PF_MEMORY_MOST */
     PF_NO_SLOT = 3,         /* the slot is not 0 to 7 */
     PF_TAKEN = 4,           /* the slot holds a pattern */
@@ -48,7 +49,7 @@ enum {
     PF_MEETS = 13,          /* it would meet another pattern's */
     PF_UNREAD = 14,         /* input is still unread: the last that was fed, or the file's first */
     PF_NO_INPUT = 15,       /* no bytes to feed, or more than the input's capacity */
-    PF_SHORT = 16,          /* the buffer is too short for what it would be given */
+    PF_SHORT = 16,          /* the buffer is too short for what it would be given; for pf_upgrade, the new one is not of PF_TABLE_BYTES */
     PF_SIZE = 17,           /* the size is 0, or more than PF_PARTITION_MOST */
     PF_NO_EXTENT = 18       /* no free extent of the memory holds that size */
 };
@@ -67,7 +68,8 @@ enum {
 
 enum {
     PF_SLOTS = 8,
-    PF_TABLE_BYTES = 364,
+    PF_TABLE_BYTES = 372,
+    PF_UNCOUNTED_TABLE_BYTES = 364,   /* a table of the versions that did not keep its free bytes: pf_upgrade takes it */
     PF_REPORT_BYTES = 12,
     PF_BACKLOG_BYTES = 26,      /* the longest backlog: a line of three bytes for each of eight slots, and the total */
     PF_VALUES_BYTES = 9,
@@ -86,6 +88,21 @@ static inline unsigned pf_count(pf_answer answer) { return (unsigned)(answer & 0
 /* ---- The table -------------------------------------------------------------------------------------------------------
  * A table is PF_TABLE_BYTES bytes that these calls write and read; between calls the host keeps them, and may copy, store and move
  * them. Every sound table has exactly one form as bytes. A table and its memory are a system: they are its whole state. */
+
+/* Two numbers that a table keeps for a display: pf_free() is how many bytes of the memory are in no partition, and pf_widest() is the length of
+ * the widest free extent, 0 if no byte is free (pf_fit says what a free extent is). pf_new puts the memory's length in both, pf_load and
+ * pf_unload keep both true, pf_upgrade counts them, and every other call leaves them. A table in which either is not exactly that of its
+ * partitions is not sound.
+ * These two functions read the numbers, and release nothing: there is nothing to release. They stand here and not in the archive, so that a
+ * display needs this header alone. They test nothing. `table` must be PF_TABLE_BYTES bytes in the form of this version: upgrade an older
+ * table first. The numbers are true if the last call on the table was not refused by 1, and nobody has changed its bytes since.
+ * No other thread may write the table meanwhile: give a display a copy that was made between calls. */
+static inline uint32_t pf_u32_at(const uint8_t *at)
+{
+    return (uint32_t)at[0] << 24 | (uint32_t)at[1] << 16 | (uint32_t)at[2] << 8 | at[3];
+}
+static inline uint32_t pf_free(const uint8_t *table) { return pf_u32_at(table + 4); }
+static inline uint32_t pf_widest(const uint8_t *table) { return pf_u32_at(table + 8); }
 
 /* Makes a table of eight empty slots for a memory of `memory_length` bytes, which is not touched. The table's old bytes do not matter.
  * Refused: 1 (here only for the buffer's length), 2. */
@@ -143,6 +160,15 @@ pf_answer pf_backlog(const uint8_t *table, size_t table_length, uint8_t *buffer,
  * Nothing is kept for it: a load in between may take the place. A start is answered even if no slot is empty. The memory is not needed.
  * Refused: 1, 17, 18. */
 pf_answer pf_fit(const uint8_t *table, size_t table_length, size_t size);
+
+/* Takes over a table as an earlier version kept it: writes it to `table` in the form of this version. The length of `old`, as it was stored,
+ * tells its version: PF_UNCOUNTED_TABLE_BYTES, or PF_TABLE_BYTES for a table of this version, which is copied. `old` is only read, and must not
+ * overlap `table`: no table is upgraded in place. What `table` held before does not matter.
+ * The slots are the same, and each pattern's machine goes on where it was. What the old table did not keep is worked out. The memory is not
+ * needed: lend it with the new table as it was lent with the old one.
+ * Refused: 1 (`old` is of another length, or holds no table that is sound by the rules of its version), 16 (`table` is not of PF_TABLE_BYTES:
+ * a longer one is refused too). */
+pf_answer pf_upgrade(const uint8_t *old, size_t old_length, uint8_t *table, size_t table_length);
 
 /* ---- Pattern files --------------------------------------------------------------------------------------------------- */
 

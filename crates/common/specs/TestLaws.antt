@@ -113,3 +113,18 @@ pub below-test : (n : ℕ) (test : ℕ → Bool) → ((i : ℕ) → i < n → te
 unfolding allBelow
 below-test zero test h = refl
 below-test (suc n) test h = and-test (allBelow n test) (test n) (below-test n test (λ i q. h i (omega arith))) (h n (omega arith))
+
+-- either the test fails of every number below n, or it holds of one
+pub none-or-some : (n : ℕ) (test : ℕ → Bool) → ((i : ℕ) → i < n → test i ≡ false) ⊎ ((i : ℕ) × (i < n) × (test i ≡ true))
+none-or-some zero test = inl (λ i q. absurd (omega arith))
+none-or-some (suc n) test = go (test n) refl (none-or-some n test)
+  where
+    go : (b : Bool) → test n ≡ b → ((i : ℕ) → i < n → test i ≡ false) ⊎ ((i : ℕ) × (i < n) × (test i ≡ true))
+        → ((i : ℕ) → i < suc n → test i ≡ false) ⊎ ((i : ℕ) × (i < suc n) × (test i ≡ true))
+    go true e below = inr (n, omega arith, e)
+    go false e (inr some) = inr (some .0, omega (arith, some .1), some .2)
+    go false e (inl none) = inl (λ i q. each i q (ℕ-discrete i n))
+      where
+        each : (i : ℕ) → i < suc n → Dec (i ≡ n) → test i ≡ false
+        each i q (yes r) = ap test r ∙ e
+        each i q (no r) = none i (omega arith)

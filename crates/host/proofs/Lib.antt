@@ -1,3 +1,4 @@
 -- Laws that only proofs need.
 pub mod HostCallLaws
 pub mod HostFileLaws
+pub mod UpgradeLaws

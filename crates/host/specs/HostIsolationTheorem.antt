@@ -11,7 +11,7 @@ use lib.ListN.{length, getD, set, length-set}
 use Rattle.common.specs.Choice.{if_then_else_}
 use Rattle.common.specs.Repetition.{times}
 use Rattle.cpu.specs.MachineLaws.{times-shaped}
-use Rattle.supervisor.specs.Calls.{Change, load, unload, feed, drain, Call, change, run, query, refusal, patchOf, afterAccepted, afterCall}
+use Rattle.supervisor.specs.Calls.{Change, load, unload, feed, drain, Call, change, run, query, refusal, patchOf, countedAfter, afterAccepted, afterCall}
 use Rattle.supervisor.specs.Events.{Event, call, write, afterEvent, afterEvents}
 use Rattle.supervisor.specs.System.{System, system, slotOf, patched, machineIn}
 use Rattle.supervisor.specs.Table.{noSlot, slotAt, withSlot}
@@ -25,7 +25,7 @@ use Rattle.host.specs.HostCalls.{tableBytesAfter, HostBuffers, systemOf,
 use Rattle.host.specs.HostIsolation.{hostAfterEvent, hostAfterEvents, HostIsolation}
 use Rattle.host.specs.TableEncoding.{tableFromBytes, tableBytes, tableLength}
 use Rattle.encoding.specs.StateRoundTripLaws.{StateShaped}
-use Rattle.host.specs.TableRoundTripLaws.{SlotsShaped, TableShaped, table-decoded, table-length, table-shaped}
+use Rattle.host.specs.TableRoundTripLaws.{SlotsShaped, TableShaped, counted-shaped, table-decoded, table-length, table-shaped}
 use Rattle.supervisor.specs.CallDefinitions.{change-definitions}
 
 -- ---- every call keeps the lengths that a table's bytes need
@@ -75,9 +75,16 @@ patch-shaped unload s h = record { registers = refl; returns = refl }
 patch-shaped (feed bytes) s h = h
 patch-shaped (drain room) s h = h
 
+counted-after-shaped : (c : Change) (t : Table) → TableShaped t → TableShaped (countedAfter c t)
+unfolding countedAfter
+counted-after-shaped (load location file) t h = counted-shaped t h
+counted-after-shaped unload t h = counted-shaped t h
+counted-after-shaped (feed bytes) t h = h
+counted-after-shaped (drain room) t h = h
+
 accepted-shaped : (c : Call) (x : System) → TableShaped (x .table) → TableShaped (afterAccepted c x .table)
 unfolding afterAccepted patched afterRun
-accepted-shaped (change k c) x h = with-shaped (x .table) h k _ (λ q. patch-shaped c (slotOf x k) (at-slot (x .table) h k q))
+accepted-shaped (change k c) x h = counted-after-shaped c _ (with-shaped (x .table) h k _ (λ q. patch-shaped c (slotOf x k) (at-slot (x .table) h k q)))
 accepted-shaped (run n) x h = rounds-shaped n x h
 accepted-shaped (query q) x h = h
 

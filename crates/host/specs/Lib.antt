@@ -1,6 +1,7 @@
 -- Definitions that must be believed, in reading order.
 pub mod TableEncoding
 pub mod HostCalls
+pub mod Upgrading
 pub mod PatternFiles
 pub mod BenchRun
 pub mod HostIsolation
@@ -8,3 +9,4 @@ pub mod HostIsolation
 pub mod TableRoundTripLaws
 pub mod PatternFileLaws
 pub mod HostIsolationTheorem
+pub mod UpgradeTheorem

@@ -1,7 +1,9 @@
--- Definitions that must be believed: a table as 364 bytes. Numbers of two and of four bytes have the high byte first.
+-- Definitions that must be believed: a table as 372 bytes. Numbers of two and of four bytes have the high byte first.
 --
 --   0  the memory's length (four bytes)
---   4  eight slots of 45 bytes each, slot k at 4 + 45 k; in a slot
+--   4  how many bytes are free (four bytes)
+--   8  the length of the widest free extent (four bytes)
+--  12  eight slots of 45 bytes each, slot k at 12 + 45 k; in a slot
 --        0  base (four bytes)
 --        4  window
 --        6  input
@@ -27,7 +29,7 @@ abbrev pub slotLength : ℕ
 slotLength = partitionLength + stateLength
 
 abbrev pub slotsOffset : ℕ
-slotsOffset = 4
+slotsOffset = 12
 
 abbrev pub tableLength : ℕ
 tableLength = slotsOffset + 8 * slotLength
@@ -48,8 +50,12 @@ partitionBytes p =
 unfoldable pub slotBytes : Slot → List ℕ
 slotBytes s = partitionBytes (s .partition) ++ stateBytes (s .state)
 
+-- the three numbers before the slots
+unfoldable pub headBytes : Table → List ℕ
+headBytes t = concat (u32Bytes (t .size) ∷ u32Bytes (t .free) ∷ u32Bytes (t .widest) ∷ [])
+
 unfoldable pub tableBytes : Table → List ℕ
-tableBytes t = u32Bytes (t .size) ++ concat (map slotBytes (t .slots))
+tableBytes t = headBytes t ++ concat (map slotBytes (t .slots))
 
 -- ---- from bytes to the table that they hold
 
@@ -64,5 +70,9 @@ partitionFromBytes bytes =
 unfoldable pub slotFromBytes : List ℕ → Slot
 slotFromBytes bytes = record { partition = partitionFromBytes bytes; state = stateFromBytes (drop partitionLength bytes) }
 
+-- the eight slots whose bytes start at an offset
+abbrev pub slotsFromBytes : ℕ → List ℕ → List Slot
+slotsFromBytes at bytes = tabulate 8 (λ k. slotFromBytes (partOf bytes (at + slotLength * k) slotLength))
+
 unfoldable pub tableFromBytes : List ℕ → Table
-tableFromBytes bytes = record { size = u32At bytes 0; slots = tabulate 8 (λ k. slotFromBytes (partOf bytes (slotsOffset + slotLength * k) slotLength)) }
+tableFromBytes bytes = record { size = u32At bytes 0; free = u32At bytes 4; widest = u32At bytes 8; slots = slotsFromBytes slotsOffset bytes }

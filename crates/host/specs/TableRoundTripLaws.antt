@@ -1,4 +1,4 @@
--- Laws that the checker has shown: every table has its 364 bytes, every 364 bytes are a table, and each way leads back. So each table
+-- Laws that the checker has shown: every table has its 372 bytes, every 372 bytes are a table, and each way leads back. So each table
 -- has exactly one form as bytes.
 use mathlib.Core.List.{List, [], _∷_, _++_, map}
 use mathlib.Core.Path.{_≡_, refl, sym, ap, _∙_}
@@ -11,12 +11,13 @@ use Rattle.slices.specs.Numbers.{u32Bytes, u32At}
 use Rattle.slices.specs.NumberLaws.{u16-decoded, u32-decoded, u16-encoded, u32-encoded}
 use Rattle.slices.specs.PieceLaws.{part-tabulated, parts-concat}
 use Rattle.slices.specs.Slices.{AllBytes, partOf, concat, tabulate}
+use Rattle.supervisor.specs.FreeBytes.{counted}
 use Rattle.supervisor.specs.declared.table.Partition.{Partition}
 use Rattle.supervisor.specs.declared.table.Slot.{Slot}
 use Rattle.supervisor.specs.declared.table.Table.{Table}
 use Rattle.encoding.specs.StateEncoding.{stateLength, stateBytes, stateFromBytes}
 use Rattle.encoding.specs.StateRoundTripLaws.{StateShaped, state-shaped, state-length, state-decoded, state-encoded}
-use Rattle.host.specs.TableEncoding.{partitionLength, slotLength, slotsOffset, tableLength, partitionBytes, slotBytes, tableBytes, partitionFromBytes, slotFromBytes, tableFromBytes}
+use Rattle.host.specs.TableEncoding.{partitionLength, slotLength, slotsOffset, tableLength, partitionBytes, slotBytes, headBytes, tableBytes, partitionFromBytes, slotFromBytes, slotsFromBytes, tableFromBytes}
 
 -- a table has eight slots, and each has a state of seven registers and eight return addresses: in the code by their types
 abbrev pub SlotsShaped : List Slot → Type 0
@@ -26,6 +27,10 @@ SlotsShaped (s ∷ ss) = StateShaped (s .state) × SlotsShaped ss
 pub record TableShaped (t : Table) : Type 0 where
   pub eight : length (t .slots) ≡ 8
   pub all : SlotsShaped (t .slots)
+
+-- counting the free bytes leaves the slots
+pub counted-shaped : (t : Table) → TableShaped t → TableShaped (counted t)
+counted-shaped t h = record { eight = h .eight; all = h .all }
 
 -- ---- a slot
 
@@ -132,36 +137,43 @@ slots-encoded (suc n) l h small =
     in
     ap (λ (ss : List Slot). concat (map slotBytes ss)) (slots-more n l) ∙ (λ j. first j ++ others j) ∙ take-append-drop slotLength l
 
-slots-shaped : (n : ℕ) (f : ℕ → List ℕ) → SlotsShaped (tabulate n (λ k. slotFromBytes (f k)))
+pub slots-shaped : (n : ℕ) (f : ℕ → List ℕ) → SlotsShaped (tabulate n (λ k. slotFromBytes (f k)))
 unfolding slotFromBytes
 slots-shaped zero f = tt
 slots-shaped (suc n) f = (state-shaped (drop partitionLength (f 0)), slots-shaped n (λ k. f (suc k)))
 
 -- ---- the table
 
+table-head-length : (t : Table) → length (headBytes t) ≡ slotsOffset
+unfolding headBytes
+table-head-length t = refl
+
 pub table-length : (t : Table) → TableShaped t → length (tableBytes t) ≡ tableLength
 unfolding tableBytes
 table-length t h =
-    length-append (u32Bytes (t .size)) (concat (map slotBytes (t .slots))) ∙ (omega (arith, slots-length (t .slots) (h .all), h .eight))
+    length-append (headBytes t) (concat (map slotBytes (t .slots))) ∙ (omega (arith, table-head-length t, slots-length (t .slots) (h .all), h .eight))
 
 -- a table's bytes hold that table
 pub table-decoded : (t : Table) → TableShaped t → tableFromBytes (tableBytes t) ≡ t
-unfolding tableFromBytes tableBytes
+unfolding tableFromBytes tableBytes headBytes
 table-decoded t h =
     let l : List ℕ = concat (map slotBytes (t .slots)) in
-    let ss : tabulate 8 (λ k. slotFromBytes (partOf (u32Bytes (t .size) ++ l) (slotsOffset + slotLength * k) slotLength)) ≡ t .slots =
-    slots-behind 8 slotsOffset (u32Bytes (t .size) ++ l)
+    let ss : slotsFromBytes slotsOffset (headBytes t ++ l) ≡ t .slots =
+    slots-behind 8 slotsOffset (headBytes t ++ l)
     ∙ ap (λ (k : ℕ). slotsIn k l) (sym (h .eight))
     ∙ slots-decoded (t .slots) (h .all)
     in
-    λ j. record { size = u32-decoded (t .size) [] j; slots = ss j }
+    λ j. record { size = u32-decoded (t .size) [] j; free = u32-decoded (t .free) [] j; widest = u32-decoded (t .widest) [] j; slots = ss j }
 
 -- so many bytes are those of the table that they hold
 pub table-encoded : (l : List ℕ) → length l ≡ tableLength → AllBytes l → tableBytes (tableFromBytes l) ≡ l
-unfolding tableFromBytes tableBytes
+unfolding tableFromBytes tableBytes headBytes
 table-encoded l h small =
-    let first : u32Bytes (u32At l 0) ≡ take slotsOffset l = u32-encoded l small 0 (omega arith) in
-    let others : concat (map slotBytes (tabulate 8 (λ k. slotFromBytes (partOf l (slotsOffset + slotLength * k) slotLength)))) ≡ drop slotsOffset l =
+    let first : concat (u32Bytes (u32At l 0) ∷ u32Bytes (u32At l 4) ∷ u32Bytes (u32At l 8) ∷ []) ≡ take slotsOffset l =
+    (λ j. concat (u32-encoded l small 0 (omega arith) j ∷ u32-encoded l small 4 (omega arith) j ∷ u32-encoded l small 8 (omega arith) j ∷ []))
+    ∙ parts-concat l 0 (4 ∷ 4 ∷ 4 ∷ [])
+    in
+    let others : concat (map slotBytes (slotsFromBytes slotsOffset l)) ≡ drop slotsOffset l =
     ap (λ (ss : List Slot). concat (map slotBytes ss)) (slots-behind 8 slotsOffset l)
     ∙ slots-encoded 8 (drop slotsOffset l) (length-drop slotsOffset l ∙ (omega arith)) (bytes-drop slotsOffset l small)
     in

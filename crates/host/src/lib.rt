@@ -3,6 +3,7 @@ mod bench_run;
 mod host_calls;
 mod pattern_files;
 mod table_encoding;
+mod upgrading;
 
 pub use bench_run::pf_listing;
 pub use host_calls::pf_backlog;
@@ -18,3 +19,4 @@ pub use pattern_files::pf_code;
 pub use pattern_files::pf_input;
 pub use pattern_files::pf_read;
 pub use pattern_files::pf_write;
+pub use upgrading::pf_upgrade;

@@ -3,7 +3,7 @@ ghost use mathlib.Core.Path.{_≡_};
 ghost use Prim.Native.Nat.{_+_, _≤_};
 ghost use lib.ListN.{length};
 ghost use Rattle.slices.specs.Slices.{copied, partOf};
-ghost use Rattle.host.specs.TableEncoding.{partitionFromBytes, partitionBytes, partitionLength, slotBytes, slotFromBytes, slotLength, tableFromBytes, tableBytes, tableLength};
+ghost use Rattle.host.specs.TableEncoding.{partitionFromBytes, partitionBytes, partitionLength, slotBytes, slotFromBytes, slotLength, slotsFromBytes, slotsOffset, headBytes, tableFromBytes, tableBytes, tableLength};
 use common::Layout;
 use common::Location;
 use slices::byte;
@@ -23,7 +23,7 @@ const PARTITION_LENGTH: usize = 11;
 const SLOT_LENGTH: usize = PARTITION_LENGTH + encoding::STATE_LENGTH;
 
 // Where the first slot stands.
-const SLOTS_OFFSET: usize = 4;
+const SLOTS_OFFSET: usize = 12;
 
 // How many bytes a table has.
 pub(crate) const TABLE_LENGTH: usize = SLOTS_OFFSET + Table::SLOTS * SLOT_LENGTH;
@@ -55,18 +55,34 @@ fn decode_slot(bytes: &[u8], at: usize) -> Slot
     Slot { partition, state }
 }
 
+// The eight slots whose bytes start at an offset.
+pub(crate) fn decode_slots(bytes: &[u8], at: usize) -> [Slot; 8]
+    requires { ⌜ at ≤ slotsOffset ⌝ }
+    ensures { λ s. ⌜ s ≡ slotsFromBytes at (now (bytes .entry)) ⌝ }
+{
+    let first = decode_slot(bytes, at);
+    let mut slots = [first; 8];
+    let mut k: usize = 0;
+    while k < Table::SLOTS {
+        slots[k] = decode_slot(bytes, at + SLOT_LENGTH * k);
+        k += 1;
+    }
+    slots
+}
+
 pub(crate) fn decode_table(bytes: &[u8]) -> Table
     ensures { λ t. ⌜ t ≡ tableFromBytes (now (bytes .entry)) ⌝ }
 {
     let size = u32_at(bytes, 0);
-    let first = decode_slot(bytes, SLOTS_OFFSET);
-    let mut slots = [first; 8];
-    let mut k: usize = 0;
-    while k < Table::SLOTS {
-        slots[k] = decode_slot(bytes, SLOTS_OFFSET + SLOT_LENGTH * k);
-        k += 1;
+    let free = u32_at(bytes, 4);
+    let widest = u32_at(bytes, 8);
+    let slots = decode_slots(bytes, SLOTS_OFFSET);
+    Table {
+        size,
+        free,
+        widest,
+        slots,
     }
-    Table { size, slots }
 }
 
 // Writes a partition's bytes at an offset.
@@ -96,11 +112,21 @@ fn put_slot(bytes: &mut [u8], at: usize, slot: Slot)
     copy(bytes, at + PARTITION_LENGTH, &own);
 }
 
+// Writes the three numbers before the slots.
+fn put_head(bytes: &mut [u8], table: Table)
+    requires { ⌜ slotsOffset ≤ length (now bytes) ⌝ }
+    ensures { λ _. ⌜ now (bytes .exit) ≡ copied (now (bytes .entry)) 0 (headBytes table) ⌝ }
+{
+    put_u32(bytes, 0, table.size);
+    put_u32(bytes, 4, table.free);
+    put_u32(bytes, 8, table.widest);
+}
+
 pub(crate) fn put_table(bytes: &mut [u8], table: Table)
     requires { ⌜ length (now bytes) ≡ tableLength ⌝ }
     ensures { λ _. ⌜ now (bytes .exit) ≡ tableBytes table ⌝ }
 {
-    put_u32(bytes, 0, table.size);
+    put_head(bytes, table);
     let mut k: usize = 0;
     while k < Table::SLOTS {
         let s = table.slots[k];

@@ -42,7 +42,7 @@ module _ (t : Table) (memory : List ℕ) (k : ℕ) (buffer : List ℕ) where
   same-refusal h e q =
       let f = table-fact t h in
       let own : (isOneTo (length memory) 65536 && slotSound (length memory) tableSlot) ≡ true =
-      ap (λ (n : ℕ). isOneTo n 65536 && slotSound n tableSlot) e ∙ and-test _ _ (one-to-test (t .size) 65536 (f .size)) (f .each k q) in
+      ap (λ (n : ℕ). isOneTo n 65536 && slotSound n tableSlot) e ∙ and-test _ _ (one-to-test (t .size) 65536 (f .slots .size)) (f .slots .each k q) in
       rw (h, eq-eqb _ _ e, le-ltb 7 k (omega arith), own)
 
   -- at one number, both outcomes
@@ -51,7 +51,7 @@ module _ (t : Table) (memory : List ℕ) (k : ℕ) (buffer : List ℕ) where
   agrees-by-test n true d l z = record { table = rw (d, l, z, eqb-true n 0 z, copied-none); count = rw (d, l, z); bytes = rw (d, l, z) }
   agrees-by-test n false d l z =
       record {
-        table = rw (d, l, z) (ap (λ (r : List Slot). outcome n (record { size = t .size; slots = r }) memory) (set-getD (t .slots) k _));
+        table = rw (d, l, z) (ap (λ (r : List Slot). outcome n (record { size = t .size; free = t .free; widest = t .widest; slots = r }) memory) (set-getD (t .slots) k _));
         count = rw (d, l, z);
         bytes = rw (d, l, z);
       }

@@ -2,7 +2,7 @@
 use mathlib.Core.Bool.{Bool, true, false, _&&_}
 use mathlib.Core.List.{List, _++_}
 use mathlib.Core.Logic.{_≢_}
-use mathlib.Core.Path.{_≡_, refl, ap}
+use mathlib.Core.Path.{_≡_, refl, sym, ap, _∙_}
 use Prim.Native.Nat.{ℕ}
 use native.Mathlib.Omega.{arith}
 use borrow.Author.Tests.{eq-eqb, eqb-true, le-leb}
@@ -17,7 +17,9 @@ use Rattle.supervisor.specs.Calls.{Outcome, change, drain, refusal, outcome, ou
 use Rattle.supervisor.specs.System.{System, system, patched}
 use Rattle.supervisor.specs.Table.{emptySlot, emptyTable, newRefusal, newTable, partitionEnd, slotAt, withSlot, slotWithState}
 use Rattle.supervisor.specs.Draining.{drainedState, drainPatch, writtenBytes}
-use Rattle.supervisor.specs.Sound.{slotSound, areApart, isClearOfOthers, tableSound}
+use Rattle.supervisor.specs.FreeBytes.{counted}
+use Rattle.supervisor.specs.Sound.{slotSound, areApart, isClearOfOthers, slotsSound, tableSound}
+use Rattle.supervisor.specs.SoundLaws.{counted-test}
 use Rattle.supervisor.specs.declared.table.Partition.{Partition}
 use Rattle.supervisor.specs.declared.table.Slot.{Slot}
 use Rattle.supervisor.specs.declared.table.Table.{Table}
@@ -26,9 +28,12 @@ use Rattle.supervisor.specs.CallDefinitions.{refusal-definitions}
 use Rattle.common.specs.ConditionDefinitions.{condition-definitions}
 use Rattle.supervisor.specs.CallDefinitions.{drain-definitions}
 
--- a table of seven empty slots behind this one
+-- a table of seven empty slots behind this one, and the same with its free bytes counted
+abbrev pub aloneSlots : ℕ → Slot → Table
+aloneSlots size s = withSlot (emptyTable size) 0 s
+
 abbrev pub aloneTable : ℕ → Slot → Table
-aloneTable size s = withSlot (emptyTable size) 0 s
+aloneTable size s = counted (aloneSlots size s)
 
 -- an empty partition meets none, on either side
 empty-apart-left : (p : Partition) → areApart (emptySlot .partition) p ≡ true
@@ -39,10 +44,14 @@ empty-apart-right : (p : Partition) → areApart p (emptySlot .partition) ≡ tr
 unfolding areApart emptySlot
 empty-apart-right p = or-right (leb (partitionEnd p) 0) _ (le-leb 0 (p .base .0) (omega arith))
 
--- it is sound exactly if its size is in range and the slot is sound by itself
-pub alone-sound : (size : ℕ) (s : Slot) → tableSound (aloneTable size s) ≡ (isOneTo size 65536 && slotSound size s)
-unfolding tableSound withSlot slotAt andAll allBelow isClearOfOthers
-alone-sound size s = simp (empty-sound size, empty-apart-left, empty-apart-right, and-true)
+-- its slots are sound exactly if its size is in range and the slot is sound by itself
+alone-slots : (size : ℕ) (s : Slot) → slotsSound (aloneSlots size s) ≡ (isOneTo size 65536 && slotSound size s)
+unfolding slotsSound withSlot slotAt andAll allBelow isClearOfOthers
+alone-slots size s = simp (empty-sound size, empty-apart-left, empty-apart-right, and-true)
+
+-- and so is the table
+alone-sound : (size : ℕ) (s : Slot) → tableSound (aloneTable size s) ≡ (isOneTo size 65536 && slotSound size s)
+alone-sound size s = counted-test (aloneSlots size s) ∙ alone-slots size s
 
 -- so draining there is refused as draining the slot is
 pub alone-refusal : (s : Slot) (memory : List ℕ) (room : ℕ) → refusal (change 0 (drain room)) (system (aloneTable (length memory) s) memory) ≡ drainSlotRefusal s (length memory) room
@@ -57,6 +66,16 @@ not-new s memory buffer h = alone-by-test (isOneTo (length memory) 65536) refl
     alone-by-test : (b : Bool) → isOneTo (length memory) 65536 ≡ b → drainLentOutcome (record { refusal = 1; count = 0 }) s buffer ≡ drainSlotOf s memory buffer
     alone-by-test true e = absurd (h (rw e))
     alone-by-test false e = rw e
+
+-- so does a slot that is not sound
+pub not-alone : (s : Slot) (memory buffer : List ℕ) (t : Table) → t ≡ emptyTable (length memory) → slotsSound (withSlot t 0 s) ≡ false → {n : ℕ} → n ≡ 1
+    → drainLentOutcome (record { refusal = n; count = 0 }) s buffer ≡ drainSlotOf s memory buffer
+unfolding condition-definitions drainSlotOf drainSlotRefusal
+not-alone s memory buffer t e h {n} one =
+    let own : (isOneTo (length memory) 65536 && slotSound (length memory) s) ≡ false =
+    sym (alone-slots (length memory) s) ∙ sym (ap (λ (u : Table). slotsSound (withSlot u 0 s)) e) ∙ h
+    in
+    rw (own, one)
 
 pub new-table : (n : ℕ) → newRefusal n ≡ 0 → newTable n ≡ emptyTable n
 unfolding newTable if_then_else_
@@ -98,11 +117,12 @@ module _ (s : Slot) (memory buffer : List ℕ) where
 
 -- the same for whoever knows the answers of the call and the table it was made with
 pub by-draining :
-    (s : Slot) (memory buffer : List ℕ) (t : Table) → t ≡ emptyTable (length memory)
+    (s : Slot) (memory buffer : List ℕ) (t u : Table) → t ≡ emptyTable (length memory) → u ≡ counted (withSlot t 0 s)
     → (r n : ℕ) (t' : Table) (b : List ℕ)
-    → outcome r t' memory ≡ outcomeOf (change 0 (drain (length buffer))) (system (withSlot t 0 s) memory)
-    → n ≡ drainedCount (system (withSlot t 0 s) memory) 0 (length buffer)
-    → b ≡ drainedBuffer (system (withSlot t 0 s) memory) 0 buffer
+    → outcome r t' memory ≡ outcomeOf (change 0 (drain (length buffer))) (system u memory)
+    → n ≡ drainedCount (system u memory) 0 (length buffer)
+    → b ≡ drainedBuffer (system u memory) 0 buffer
     → drainLentOutcome (record { refusal = r; count = n }) (slotAt t' 0) b ≡ drainSlotOf s memory buffer
-by-draining s memory buffer t e r n t' b h i j =
-    rw (ap (λ (o : Outcome). o .refusal) h, ap (λ (o : Outcome). o .after .table) h, i, j, e) (alone-drained s memory buffer)
+by-draining s memory buffer t u e f r n t' b h i j =
+    let alone : u ≡ aloneTable (length memory) s = f ∙ ap (λ (v : Table). counted (withSlot v 0 s)) e in
+    rw (ap (λ (o : Outcome). o .refusal) h, ap (λ (o : Outcome). o .after .table) h, i, j, alone) (alone-drained s memory buffer)

@@ -15,8 +15,9 @@ use Rattle.supervisor.specs.declared.table.Slot.{Slot}
 use Rattle.lend.specs.declared.lent.SlotAnswer.{SlotAnswer}
 use Rattle.lend.specs.declared.lent.LentAnswer.{LentAnswer}
 
--- what refuses it: 1 if the memory's length is out of range or the slot breaks a rule of a sound table, disjointness aside, its
--- partition measured against that memory; then 5; then what refuses a draining
+-- what refuses it: 1 if the memory's length is out of range or the slot is not sound, its partition measured against that memory. That
+-- partitions are disjoint, and the numbers of the free bytes, are rules of a table, which the call does not see. Then 5; then what refuses a
+-- draining
 unfoldable pub drainSlotRefusal : Slot → ℕ → ℕ → ℕ
 drainSlotRefusal s size room = refusalBy ((not (isOneTo size 65536 && slotSound size s) gives 1 ∷ isEmpty s gives 5 ∷ []) ++ drainConditions s room)
 

@@ -23,7 +23,8 @@ fn refused_answer(refusal: u8, slot: Slot) -> SlotAnswer
     SlotAnswer { drained, slot }
 }
 
-// Drains the slot as the only one of a table: by value, and all of the work.
+// Drains the slot as the only one of a table: by value, and all of the work. That table's free bytes are counted, so that the slot decides
+// alone whether it is sound.
 pub fn drain_slot(slot: Slot, memory: &[u8], buffer: &mut [u8]) -> SlotAnswer
     ensures { λ r. ⌜ drainSlotOutcome r (now (buffer .exit)) ≡ drainSlotOf slot (now (memory .entry)) (now (buffer .entry)) ⌝ }
 {
@@ -33,7 +34,12 @@ pub fn drain_slot(slot: Slot, memory: &[u8], buffer: &mut [u8]) -> SlotAnswer
     }
     let mut alone = fresh.table;
     alone.slots[0] = slot;
-    let d = supervisor::drain(alone, memory, 0, buffer);
+    let counted = supervisor::recount(alone);
+    if counted.refusal != 0 {
+        return refused_answer(counted.refusal, slot);
+    }
+    let table = counted.table;
+    let d = supervisor::drain(table, memory, 0, buffer);
     let drained = LentAnswer {
         refusal: d.refusal,
         count: d.count,

@@ -4,7 +4,7 @@ use Rattle.cpu.specs.StepDefinitions.{step-definitions}
 use Rattle.loader.specs.Fresh.{freshState, freshBytes, freshMachine}
 use Rattle.pattern.specs.FileDefinitions.{file-definitions}
 use Rattle.supervisor.specs.CallDefinitions.{sound-definitions, refusal-definitions, change-definitions, run-definitions}
-use Rattle.supervisor.specs.Calls.{afterAccepted, afterCall, reportOf}
+use Rattle.supervisor.specs.Calls.{afterAccepted, afterCall, countedAfter, reportOf}
 use Rattle.supervisor.specs.Loading.{partitionFor}
 use Rattle.supervisor.specs.Table.{newTable, newRefusal}
 use Rattle.listing.specs.LoneLaws.{loneUntil, loneReport, loneLines}
@@ -22,5 +22,5 @@ lone-definitions = Unit {0}
 
 -- a load, a round and a report
 unfoldable pub round-definitions : Type 0
-unfolding load-definitions step-definitions change-definitions run-definitions afterCall afterAccepted freshBytes reportOf
+unfolding load-definitions step-definitions change-definitions run-definitions afterCall afterAccepted countedAfter freshBytes reportOf
 round-definitions = Unit {0}

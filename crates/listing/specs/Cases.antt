@@ -53,6 +53,8 @@ pub record WorkedCases : Type 0 where
   -- K10's partition ends with its memory
   pub ends-with-memory : refusal (loadCall pattern.k10) k10Before ≡ 0
   pub one-further : refusal (change 0 (load (record { 0 = 1 }) pattern.k10)) k10Before ≡ 12
+  -- and leaves none of it free (document 02, U5)
+  pub none-free : (k10Before .table .widest ≡ 24) × (k10Loaded .table .free ≡ 0) × (k10Loaded .table .widest ≡ 0)
   -- K11
   pub k11 :
       reportOf (afterCall (run 1) k10Loaded .table) 0
@@ -95,6 +97,7 @@ worked-cases =
       empty-window = lone-prints smallestFile smallestText smallest-taken smallest-lone;
       ends-with-memory = refl;
       one-further = refl;
+      none-free = (refl, refl, refl);
       k11 = refl;
       k11-written = refl;
     }

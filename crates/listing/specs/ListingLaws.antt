@@ -12,15 +12,15 @@ use Rattle.common.specs.Choice.{if_then_else_}
 use Rattle.common.specs.TestLaws.{and-fact}
 use Rattle.loader.specs.Fresh.{freshState}
 use Rattle.slices.specs.SliceLaws.{part-length}
-use Rattle.supervisor.specs.Calls.{load, change, run, drain, report, refusal, patchOf, afterAccepted, afterCall, queryRefusal, drainedCount, drainedBuffer, reportOf}
-use Rattle.supervisor.specs.ChangeLaws.{change-fits}
+use Rattle.supervisor.specs.Calls.{load, change, run, drain, report, refusal, patchOf, countedAfter, afterChange, afterAccepted, afterCall, queryRefusal, drainedCount, drainedBuffer, reportOf}
+use Rattle.supervisor.specs.ChangeLaws.{change-sound}
 use Rattle.supervisor.specs.ConditionLaws.{SoundSystem, ReadySlot, loaded-ready}
-use Rattle.supervisor.specs.System.{System, slotOf, patched}
-use Rattle.supervisor.specs.Table.{newTable, newRefusal, isEmpty}
+use Rattle.supervisor.specs.System.{System, slotOf}
+use Rattle.supervisor.specs.Table.{newTable, newRefusal, isEmpty, slotAt}
 use Rattle.supervisor.specs.Draining.{writtenBytes}
 use Rattle.supervisor.specs.Loading.{loadPatch}
 use Rattle.supervisor.specs.Running.{afterRun}
-use Rattle.supervisor.specs.PatchLaws.{slot-inside, patched-slot, patch-keeps}
+use Rattle.supervisor.specs.PatchLaws.{slot-inside, patched-slot}
 use Rattle.supervisor.specs.RoundLaws.{DiffersByRunning, rounds-running}
 use Rattle.supervisor.specs.SoundLaws.{loaded-live, table-fact, table-test}
 use Rattle.supervisor.specs.Location.{outputLocation}
@@ -39,19 +39,18 @@ unfolding condition-definitions sound-definitions newTable newRefusal
 fresh-sound memory h = record { table = table-fact (newTable 40960) refl; fits = h }
 
 -- an accepted load
-pub load-after-accepted : (file : List ℕ) (x : System) → refusal (loadCall file) x ≡ 0 → afterCall (loadCall file) x ≡ patched x 0 (loadPatch (record { 0 = 0 }) file)
-unfolding afterCall afterAccepted patchOf if_then_else_
+pub load-after-accepted : (file : List ℕ) (x : System) → refusal (loadCall file) x ≡ 0 → afterCall (loadCall file) x ≡ afterChange 0 (load (record { 0 = 0 }) file) x
+unfolding afterCall afterAccepted if_then_else_
 load-after-accepted file x e = rw (eq-eqb (refusal (loadCall file) x) 0 e)
 
-load-slot : (file : List ℕ) (x : System) → SoundSystem x → isEmpty (slotOf (patched x 0 (loadPatch (record { 0 = 0 }) file)) 0) ≡ false
-unfolding loadPatch freshState
+load-slot : (file : List ℕ) (x : System) → SoundSystem x → isEmpty (slotOf (afterChange 0 (load (record { 0 = 0 }) file) x) 0) ≡ false
+unfolding countedAfter patchOf slotAt loadPatch freshState
 load-slot file x g = ap isEmpty (patched-slot x g 0 (loadPatch (record { 0 = 0 }) file) (omega arith))
 
 pub load-ready : (file : List ℕ) (x : System) → SoundSystem x → refusal (loadCall file) x ≡ 0 → ReadySlot (afterCall (loadCall file) x) 0
-unfolding patchOf
 load-ready file x g e =
     rw (load-after-accepted file x e)
-    (loaded-ready (patched x 0 (loadPatch (record { 0 = 0 }) file)) 0 (patch-keeps x g 0 _ (change-fits (load (record { 0 = 0 }) file) x 0 e) .system) (omega arith) (load-slot file x g))
+    (loaded-ready (afterChange 0 (load (record { 0 = 0 }) file) x) 0 (change-sound x g 0 (load (record { 0 = 0 }) file) e) (omega arith) (load-slot file x g))
 
 -- ---- single rounds
 

@@ -18,10 +18,11 @@ use Rattle.loader.specs.FreshLaws.{fresh-length}
 use Rattle.pattern.specs.Reader.{parametersOf}
 use Rattle.slices.specs.SliceLaws.{copied-inside, part-front}
 use Rattle.slices.specs.Slices.{partOf, copied}
-use Rattle.supervisor.specs.Calls.{run, refusal, afterCall, reportOf}
+use Rattle.supervisor.specs.Calls.{run, refusal, patchOf, countedAfter, afterCall, reportOf}
 use Rattle.supervisor.specs.ChangeLaws.{LoadAccepted, load-accepted}
 use Rattle.supervisor.specs.ConditionLaws.{SoundSystem, ReadySlot}
 use Rattle.supervisor.specs.System.{System, slotOf, patched, machineIn}
+use Rattle.supervisor.specs.Table.{slotAt}
 use Rattle.supervisor.specs.Loading.{partitionFor, loadPatch}
 use Rattle.supervisor.specs.Draining.{writtenBytes}
 use Rattle.supervisor.specs.Reporting.{reportedPsu}
@@ -90,7 +91,7 @@ until-machine (suc n) x r =
 
 load-machine : (file : List ℕ) (x : System) → SoundSystem x → refusal (loadCall file) x ≡ 0
     → (slotMachine 0 (afterCall (loadCall file) x) ≡ freshMachine file) × (slotOf (afterCall (loadCall file) x) 0 .partition ≡ partitionFor (record { 0 = 0 }) (parametersOf file))
-unfolding partitionFor loadPatch patched machineIn freshMachine
+unfolding countedAfter patchOf slotAt partitionFor loadPatch patched machineIn freshMachine
 load-machine file x g e =
     let a : LoadAccepted x 0 (record { 0 = 0 }) file = load-accepted x 0 (record { 0 = 0 }) file refl e in
     let put = patched-slot x g 0 (loadPatch (record { 0 = 0 }) file) (omega arith) in

@@ -16,7 +16,8 @@ pub(crate) fn slot(entry: &[u8]) -> usize {
     u16_at(entry, 4) as usize
 }
 
-// The number: a location, the length of a memory or a buffer, a count of rounds, a field's value or a check sum; by width.
+// The number: a location, the length of a memory or a buffer, a count of rounds, a field's value, a check sum or the free total;
+// by width.
 pub(crate) fn value8(entry: &[u8]) -> u8 {
     byte(entry, 11)
 }
@@ -35,6 +36,11 @@ pub(crate) fn number(entry: &[u8]) -> usize {
 
 pub(crate) fn length(entry: &[u8]) -> u16 {
     u16_at(entry, 14)
+}
+
+// Of a poke: it is of the same group as the poke before it. Of a state: its two numbers about free bytes are compared.
+pub(crate) fn flag(entry: &[u8]) -> bool {
+    u16_at(entry, 16) == 1
 }
 
 pub(crate) fn bytes(entry: &[u8]) -> &[u8] {

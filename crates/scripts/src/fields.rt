@@ -1,4 +1,4 @@
-// The fields of a slot in the scripts' order: compared, and set by hand.
+// The fields of a slot in the scripts' order, and the table's own numbers: compared, and set by hand.
 use crate::entry::slot;
 use crate::entry::value8;
 use crate::entry::value16;
@@ -9,6 +9,7 @@ use cpu::Cpu;
 use cpu::State;
 use slices::rest;
 use slices::u16_at;
+use slices::u32_at;
 use supervisor::Partition;
 use supervisor::Report;
 use supervisor::Slot;
@@ -61,6 +62,11 @@ fn same_slot(s: Slot, want: &[u8]) -> bool {
         & (state.filled == u16_at(want, 48))
         & (state.read == u16_at(want, 50))
         & (state.written == u16_at(want, 52))
+}
+
+// Whether the table has these two numbers about free bytes, the widest in four bytes.
+pub(crate) fn same_free(t: Table, free: u32, widest: &[u8]) -> bool {
+    (t.free == free) & (t.widest == u32_at(widest, 0))
 }
 
 pub(crate) fn same_slots(t: Table, want: &[u8]) -> bool {
@@ -176,11 +182,29 @@ fn state_with_field(s: State, field: u16, entry: &[u8]) -> State {
     next
 }
 
-// The table with the entry's field set; the slot's number is below 8, but for the length of the memory.
+// The table's own numbers: the length of the memory, and the two about free bytes.
+fn with_number(t: Table, field: u16, entry: &[u8]) -> Table {
+    let mut next = t;
+    match field {
+        27 => {
+            next.size = value32(entry);
+        }
+        28 => {
+            next.free = value32(entry);
+        }
+        29 => {
+            next.widest = value32(entry);
+        }
+        _ => {}
+    }
+    next
+}
+
+// The table with the entry's field set; the slot's number is below 8, but for the table's own numbers.
 pub(crate) fn with_field(t: Table, entry: &[u8]) -> Table {
     let field = u16_at(entry, 12);
     let k = slot(entry);
-    let mut next = t;
+    let mut next = with_number(t, field, entry);
     if k < 8 {
         let s = t.slots[k];
         let p = s.partition;
@@ -188,9 +212,6 @@ pub(crate) fn with_field(t: Table, entry: &[u8]) -> Table {
         let old = s.state;
         let state = state_with_field(old, field, entry);
         next.slots[k] = Slot { partition, state };
-    }
-    if field == 27 {
-        next.size = value32(entry);
     }
     next
 }

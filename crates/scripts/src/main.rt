@@ -7,6 +7,7 @@ mod lending;
 
 use crate::crc::crc32;
 use crate::entry::bytes;
+use crate::entry::flag;
 use crate::entry::kind;
 use crate::entry::length;
 use crate::entry::line;
@@ -15,6 +16,7 @@ use crate::entry::size;
 use crate::entry::slot;
 use crate::entry::value16;
 use crate::entry::value32;
+use crate::fields::same_free;
 use crate::fields::same_report;
 use crate::fields::same_slots;
 use crate::fields::with_field;
@@ -25,11 +27,12 @@ use slices::fill;
 use slices::front;
 use slices::rest;
 use slices::u16_at;
+use slices::u32_at;
 use std::num::wrapping_add_u64;
 use supervisor::Answer;
 use supervisor::Table;
 
-// The table, the table as it was before fields were set by hand, and how much memory is lent.
+// The table, the table as it was before the last group of pokes, and how much memory is lent.
 struct ScriptState {
     table: Table,
     saved: Table,
@@ -239,10 +242,33 @@ fn begin_script(memory: &mut [u8]) -> EntryResult {
     result_without_call(script, true)
 }
 
+// The memory, the two numbers about free bytes where the entry has them, and the slots.
+fn same_state(table: Table, memory: &[u8], entry: &[u8]) -> bool {
+    let want = bytes(entry);
+    let has_numbers = flag(entry);
+    let same_numbers = same_free(table, u32_at(want, 0), rest(want, 4));
+    (crc32(front(memory, 65536)) == value32(entry))
+        & (!has_numbers | same_numbers)
+        & same_slots(table, rest(want, 8))
+}
+
+// An entry that is no call, and looks at the state: at the two numbers alone, or at all of it.
 fn compare_entry(script: ScriptState, memory: &[u8], entry: &[u8]) -> EntryResult {
     let table = script.table;
-    let same = (crc32(front(memory, 65536)) == value32(entry)) & same_slots(table, bytes(entry));
-    result_without_call(script, same)
+    match kind(entry) {
+        15 => result_without_call(script, same_free(table, value32(entry), bytes(entry))),
+        _ => result_without_call(script, same_state(table, memory, entry)),
+    }
+}
+
+// What an unpoke goes back to after this poke: the table before the first poke of its group.
+fn saved_by_poke(script: ScriptState, entry: &[u8]) -> Table {
+    let table = script.table;
+    let saved = script.saved;
+    if flag(entry) {
+        return saved;
+    }
+    table
 }
 
 // An entry that is no call: it changes the script's own values.
@@ -258,7 +284,7 @@ fn apply_setting(script: ScriptState, entry: &[u8]) -> ScriptState {
         },
         3 => ScriptState {
             table: with_field(table, entry),
-            saved: table,
+            saved: saved_by_poke(script, entry),
             lent_length,
         },
         _ => ScriptState {
@@ -274,7 +300,7 @@ fn run_entry(script: ScriptState, memory: &mut [u8], entry: &[u8]) -> EntryResul
     if k == 0 {
         return begin_script(memory);
     }
-    if k == 11 {
+    if (k == 11) | (k == 15) {
         return compare_entry(script, memory, entry);
     }
     if (2 <= k) & (k <= 4) {
@@ -306,7 +332,7 @@ fn print_difference(entry: &[u8], script: u64, refusal: u8) {
 
 fn is_call(entry: &[u8]) -> bool {
     let k = kind(entry);
-    (k == 1) | ((5 <= k) & (k != 11))
+    (k == 1) | ((5 <= k) & (k != 11) & (k != 15))
 }
 
 fn count_entry(tally: Tally, entry: &[u8], result: EntryResult) -> Tally {

@@ -15,7 +15,7 @@ use Rattle.supervisor.specs.Extents.{extent, emptyExtent, extentBetween,
 use Rattle.supervisor.specs.ExtentsTheorem.{below-rises}
 use Rattle.supervisor.specs.FitQuery.{fitsBetter, bestOf}
 use Rattle.supervisor.specs.FreeExtentsListed.{RisesFrom}
-use Rattle.supervisor.specs.SoundLaws.{TableSound}
+use Rattle.supervisor.specs.SoundLaws.{SlotsSound}
 use Rattle.supervisor.specs.Table.{isLoaded, partitionEnd, slotAt}
 use Rattle.supervisor.specs.declared.extents.Extent.{Extent}
 use Rattle.supervisor.specs.declared.table.Partition.{Partition}
@@ -141,7 +141,7 @@ module _ (t : Table) (n : ℕ) (l : List Extent) (e : l ≡ withoutSlotsBelow t 
   below-skipped h = rw (add-one n, h) e
 
 -- n partitions leave at most n + 1 extents
-below-few : (t : Table) → TableSound t → (n : ℕ) → n ≤ 8 → length (withoutSlotsBelow t n) ≤ n + 1
+below-few : (t : Table) → SlotsSound t → (n : ℕ) → n ≤ 8 → length (withoutSlotsBelow t n) ≤ n + 1
 unfolding withoutSlotsBelow if_then_else_
 below-few t sound zero q = extent-few 0 (t .size)
 below-few t sound (suc n) q = go (isLoaded t n) (below-few t sound n (omega arith))
@@ -150,7 +150,7 @@ below-few t sound (suc n) q = go (isLoaded t n) (below-few t sound n (omega arit
     go true further = omega (arith, each-few (slotAt t n .partition) 0 (withoutSlotsBelow t n) (below-rises t sound n (omega arith)))
     go false further = omega arith
 
-pub below-room : (t : Table) → TableSound t → (n : ℕ) (l : List Extent) → n < 8 → l ≡ withoutSlotsBelow t n → isLoaded t n ≡ true → length (eachWithout (slotAt t n .partition) l) ≤ 9
+pub below-room : (t : Table) → SlotsSound t → (n : ℕ) (l : List Extent) → n < 8 → l ≡ withoutSlotsBelow t n → isLoaded t n ≡ true → length (eachWithout (slotAt t n .partition) l) ≤ 9
 below-room t sound n l q e h = omega (arith, ap length (below-taken t n l e h), below-few t sound (n + 1) (omega arith))
 
 -- ---- the best of them

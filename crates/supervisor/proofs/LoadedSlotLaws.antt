@@ -9,7 +9,7 @@ use Rattle.supervisor.specs.declared.table.Table.{Table}
 
 -- its partition ends in a memory of at most 65,536 bytes
 pub loaded-end : (t : Table) (k : ℕ) → HoldsPattern t k → partitionEnd (slotAt t k .partition) ≤ 65536
-loaded-end t k h = omega (arith, h .loaded .partition .inside, h .table .size .fits)
+loaded-end t k h = omega (arith, h .loaded .partition .inside, h .table .slots .size .fits)
 
 stored-small : (psu : ℕ) → storedPsu psu ≡ psu → psu < 128
 stored-small psu e = omega arith

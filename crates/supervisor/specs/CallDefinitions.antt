@@ -7,20 +7,27 @@ use Rattle.common.specs.Tests.{andAll, allBelow}
 use Rattle.cpu.specs.Cpu.{freshCpu}
 use Rattle.loader.specs.Fresh.{freshState}
 use Rattle.slices.specs.Slices.{copied}
-use Rattle.supervisor.specs.Calls.{afterAccepted, afterCall, changeConditions, drainedBuffer, drainedCount, outcomeOf, patchOf, queryConditions, refusal}
+use Rattle.supervisor.specs.Calls.{afterAccepted, afterCall, countedAfter, changeConditions, drainedBuffer, drainedCount, outcomeOf, patchOf, queryConditions, refusal}
 use Rattle.supervisor.specs.Conditions.{emptySlotConditions, loadedSlotConditions, systemConditions, tableConditions}
 use Rattle.supervisor.specs.Draining.{drainConditions, drainPatch, drainedState}
+use Rattle.supervisor.specs.Extents.{eachWithout, extentBetween, widestOf, withoutPartition, withoutSlotsBelow}
+use Rattle.supervisor.specs.FreeBytes.{isCounted}
 use Rattle.supervisor.specs.Feeding.{fedState, feedConditions, feedPatch}
 use Rattle.supervisor.specs.Loading.{fileConditions, loadPatch, partitionFor, locationConditions}
 use Rattle.supervisor.specs.Running.{afterRun, slotQuanta, slotQuantum}
-use Rattle.supervisor.specs.Sound.{allFifteenBits, allZero, areApart, isClearOfOthers, partitionSound, slotSound, stateSound, tableSound, isZeroPartition, isZeroState}
+use Rattle.supervisor.specs.Sound.{allFifteenBits, allZero, areApart, isClearOfOthers, partitionSound, slotSound, slotsSound, stateSound, tableSound, isZeroPartition, isZeroState}
 use Rattle.supervisor.specs.System.{machineIn, patched}
 use Rattle.supervisor.specs.Table.{emptySlot, slotAt, withSlot}
 use Rattle.supervisor.specs.Unloading.{unloadPatch}
 
+-- the free extents, and the widest of them
+unfoldable pub extent-definitions : Type 0
+unfolding withoutSlotsBelow eachWithout withoutPartition extentBetween widestOf slotAt
+extent-definitions = Unit {0}
+
 -- which tables are sound, and an empty slot
 unfoldable pub sound-definitions : Type 0
-unfolding tableSound slotSound partitionSound stateSound isZeroPartition isZeroState allZero allFifteenBits isClearOfOthers areApart slotAt layoutSound andAll allBelow emptySlot freshCpu
+unfolding extent-definitions tableSound slotsSound isCounted slotSound partitionSound stateSound isZeroPartition isZeroState allZero allFifteenBits isClearOfOthers areApart slotAt layoutSound andAll allBelow emptySlot freshCpu
 sound-definitions = Unit {0}
 
 -- what refuses a call
@@ -35,7 +42,7 @@ change-definitions = Unit {0}
 
 -- the patch of an accepted change, carried out
 unfoldable pub patch-definitions : Type 0
-unfolding afterAccepted patchOf patched withSlot slotAt
+unfolding afterAccepted countedAfter patchOf patched withSlot slotAt
 patch-definitions = Unit {0}
 
 -- what a drain answers and leaves

@@ -1,5 +1,5 @@
 -- Definitions that must be believed: what is called, what refuses it, and what it leaves. A call is a change at one slot, a run, or a
--- query; a change is one patch of that slot, and a query changes nothing.
+-- query; a change is one patch of that slot, with the free bytes counted where its partition changes, and a query changes nothing.
 use mathlib.Core.Bool.{Bool}
 use mathlib.Core.List.{List, _++_}
 use Prim.Native.Nat.{ℕ}
@@ -16,6 +16,7 @@ use Rattle.supervisor.specs.Feeding.{feedConditions, feedPatch}
 use Rattle.supervisor.specs.Draining.{drainConditions, drainPatch, writtenBytes}
 use Rattle.supervisor.specs.Unloading.{unloadPatch}
 use Rattle.supervisor.specs.Running.{afterRun}
+use Rattle.supervisor.specs.FreeBytes.{counted}
 use Rattle.supervisor.specs.Reporting.{reportedPsu}
 use Rattle.supervisor.specs.BacklogQuery.{backlogConditions, backlogBytes, backlogLength}
 use Rattle.supervisor.specs.FitQuery.{fitConditions, bestFit}
@@ -77,9 +78,24 @@ patchOf unload s = unloadPatch s
 patchOf (feed bytes) s = feedPatch bytes s
 patchOf (drain room) s = drainPatch s
 
--- table and memory after an accepted call
+-- the table after a change's patch: a load and an unload count its free bytes; a feed and a drain leave both numbers (document 02, U5)
+unfoldable pub countedAfter : Change → Table → Table
+countedAfter (load location file) t = counted t
+countedAfter unload t = counted t
+countedAfter (feed bytes) t = t
+countedAfter (drain room) t = t
+
+-- the patch of an accepted change, carried out
+abbrev pub patchedBy : ℕ → Change → System → System
+patchedBy k c x = patched x k (patchOf c (slotOf x k))
+
+-- table and memory after an accepted change
+abbrev pub afterChange : ℕ → Change → System → System
+afterChange k c x = system (countedAfter c (patchedBy k c x .table)) (patchedBy k c x .memory)
+
+-- and after any accepted call
 unfoldable pub afterAccepted : Call → System → System
-afterAccepted (change k c) x = patched x k (patchOf c (slotOf x k))
+afterAccepted (change k c) x = afterChange k c x
 afterAccepted (run n) x = afterRun n x
 afterAccepted (query q) x = x
 

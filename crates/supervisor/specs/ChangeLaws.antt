@@ -24,9 +24,10 @@ use Rattle.pattern.specs.Reader.{readOf, parametersOf}
 use Rattle.pattern.specs.ReaderLaws.{read-zero, read-ranges, input-fits}
 use Rattle.pattern.specs.ParameterLaws.{InRange}
 use Rattle.pattern.specs.declared.reader.ReadResult.the-variants.{Accepted}
-use Rattle.supervisor.specs.Calls.{Change, load, unload, feed, drain, change, changeConditions, refusal, patchOf, outcome, outcomeOf}
+use Rattle.supervisor.specs.Calls.{Change, load, unload, feed, drain, change, changeConditions, refusal, patchOf, countedAfter, afterChange, outcome, outcomeOf}
 use Rattle.supervisor.specs.ConditionLaws.{SoundSystem, HoldsPattern, ReadySlot, file-numbered, location-numbered, vacant-numbered, vacant-slot, ready-parts, refusal-ready}
-use Rattle.supervisor.specs.System.{System, slotOf}
+use Rattle.supervisor.specs.System.{System, system, slotOf, patched}
+use Rattle.supervisor.specs.FreeBytes.{counted}
 use Rattle.supervisor.specs.Conditions.{systemConditions, emptySlotConditions}
 use Rattle.supervisor.specs.Loading.{fileConditions, locationConditions, partitionFor, loadPatch}
 use Rattle.supervisor.specs.Feeding.{feedConditions, fedState, feedPatch}
@@ -35,10 +36,10 @@ use Rattle.supervisor.specs.Table.{emptySlot, partitionEnd}
 use Rattle.supervisor.specs.Unloading.{unloadPatch}
 use Rattle.supervisor.specs.Resuming.{resumedStatus}
 use Rattle.supervisor.specs.OutcomeLaws.{refused-outcome}
-use Rattle.supervisor.specs.PatchLaws.{PatchFits, state-fits}
-use Rattle.supervisor.specs.SoundLaws.{StateSound, Loaded, slot-test, loaded-live, Apart, apart-behind, clear-fact}
+use Rattle.supervisor.specs.PatchLaws.{PatchFits, KeepsOthers, patch-keeps, numbers-keep, state-fits, state-put}
+use Rattle.supervisor.specs.SoundLaws.{StateSound, Loaded, slot-test, loaded-live, Apart, apart-behind, clear-fact, slots-test, counted-sound}
 use Rattle.supervisor.specs.Location.{inputLocation}
-use Rattle.supervisor.specs.Sound.{slotSound}
+use Rattle.supervisor.specs.Sound.{slotSound, slotsSound}
 use Rattle.supervisor.specs.declared.table.Partition.{Partition}
 use Rattle.supervisor.specs.declared.table.Slot.{Slot}
 use Rattle.supervisor.specs.declared.table.Table.{Table}
@@ -213,11 +214,23 @@ feed-fits x k h bytes l =
     let s : Slot = slotOf x k in
     state-fits x k h _ (inputLocation (s .partition)) bytes (fed-sound (s .partition .layout) (s .state) (length bytes) l (h .loaded .state)) (omega arith) (omega arith)
 
+feed-sound : (x : System) (k : ℕ) → HoldsPattern (x .table) k → (bytes : List ℕ) → length bytes ≤ slotOf x k .partition .layout .input → SoundSystem x → SoundSystem (patched x k (feedPatch bytes (slotOf x k)))
+unfolding feedPatch
+feed-sound x k h bytes l g =
+    let s : Slot = slotOf x k in
+    state-put x k h _ (inputLocation (s .partition)) bytes (fed-sound (s .partition .layout) (s .state) (length bytes) l (h .loaded .state)) (omega arith) (omega arith) g
+
 drain-fits : (x : System) (k : ℕ) → HoldsPattern (x .table) k → PatchFits x k (drainPatch (slotOf x k))
 unfolding drainPatch
 drain-fits x k h =
     let s : Slot = slotOf x k in
     state-fits x k h _ (s .partition .base) [] (drained-sound (s .partition .layout) (s .state) (h .loaded .state)) (omega arith) (omega arith)
+
+drain-sound : (x : System) (k : ℕ) → HoldsPattern (x .table) k → SoundSystem x → SoundSystem (patched x k (drainPatch (slotOf x k)))
+unfolding drainPatch
+drain-sound x k h g =
+    let s : Slot = slotOf x k in
+    state-put x k h _ (s .partition .base) [] (drained-sound (s .partition .layout) (s .state) (h .loaded .state)) (omega arith) (omega arith) g
 
 -- ---- every accepted change is a patch that fits
 
@@ -227,6 +240,33 @@ change-fits (load location file) x k e = load-fits x k location file (load-accep
 change-fits unload x k e = unload-fits x k (refusal-ready x k refl e .holds)
 change-fits (feed bytes) x k e = let a = feed-accepted x k bytes refl e in feed-fits x k (a .0 .holds) bytes (a .1)
 change-fits (drain room) x k e = drain-fits x k (drain-accepted x k room refl e .0 .holds)
+
+-- ---- what an accepted change leaves is sound
+
+module _ (x : System) (g : SoundSystem x) (k : ℕ) where
+  counted-system : (y : System) → KeepsOthers k x y → SoundSystem (system (counted (y .table)) (y .memory))
+  counted-system y h = record { table = counted-sound (y .table) (h .sound); fits = h .fits }
+
+  pub change-keeps : (c : Change) → refusal (change k c) x ≡ 0 → KeepsOthers k x (afterChange k c x)
+  unfolding countedAfter
+  change-keeps c e = go c (patch-keeps x g k (patchOf c (slotOf x k)) (change-fits c x k e))
+    where
+      go : (c : Change) → KeepsOthers k x (patched x k (patchOf c (slotOf x k))) → KeepsOthers k x (afterChange k c x)
+      go (load location file) h = numbers-keep k x _ _ _ h
+      go unload h = numbers-keep k x _ _ _ h
+      go (feed bytes) h = h
+      go (drain room) h = h
+
+  -- the slots are sound before the free bytes are counted
+  pub change-slots : (c : Change) → refusal (change k c) x ≡ 0 → slotsSound (patched x k (patchOf c (slotOf x k)) .table) ≡ true
+  change-slots c e = slots-test _ (patch-keeps x g k (patchOf c (slotOf x k)) (change-fits c x k e) .sound)
+
+  pub change-sound : (c : Change) → refusal (change k c) x ≡ 0 → SoundSystem (afterChange k c x)
+  unfolding countedAfter patchOf
+  change-sound (load location file) e = counted-system _ (patch-keeps x g k _ (change-fits (load location file) x k e))
+  change-sound unload e = counted-system _ (patch-keeps x g k _ (change-fits unload x k e))
+  change-sound (feed bytes) e = let a = feed-accepted x k bytes refl e in feed-sound x k (a .0 .holds) bytes (a .1) g
+  change-sound (drain room) e = drain-sound x k (drain-accepted x k room refl e .0 .holds) g
 
 -- ---- a load that no memory reaches
 
@@ -255,7 +295,7 @@ module _ (x : System) (k : ℕ) (file : List ℕ) where
         let g = vacant-slot x k (none-holds vacantPart (vacant-numbered x k) e) .0 in
         let none = none-holds (fileConditions file) (file-numbered file) f in
         let r = read-ranges file (parametersOf file) (read-zero file (eqb-true _ _ (not-false _ (none .0)))) in
-        location-far (x .table) k (partitionFor a (parametersOf file)) (omega (arith, g .table .size .fits, r .layout .window .some))
+        location-far (x .table) k (partitionFor a (parametersOf file)) (omega (arith, g .table .slots .size .fits, r .layout .window .some))
 
     far-file : refusalBy vacantPart ≡ 0 → refusalBy (fileConditions file ++ locationPart a) ≡ behindFile
     unfolding if_then_else_
@@ -280,7 +320,7 @@ module _ (x : System) (k : ℕ) (file : List ℕ) where
     far-refused e =
         let h = load-accepted x k a file refl e in
         let r = read-ranges file (parametersOf file) (h .read) in
-        omega (arith, h .inside, h .system .table .size .fits, r .layout .window .some)
+        omega (arith, h .inside, h .system .table .slots .size .fits, r .layout .window .some)
 
   -- so every location from 65,536 on is refused alike
   pub load-far : (a b : Location) → 65536 ≤ a .0 → 65536 ≤ b .0 → outcomeOf (change k (load a file)) x ≡ outcomeOf (change k (load b file)) x

@@ -83,7 +83,7 @@ loaded-holds t k s h =
     let (slot, (loaded, _)) = h in
     let l : k ≤ 7 = ltb-false 7 k slot in
     let q : k < 8 = omega arith in
-    record { table = s; slot = q; loaded = loaded-slot (t .size) (slotAt t k) (s .each k q) loaded }
+    record { table = s; slot = q; loaded = loaded-slot (t .size) (slotAt t k) (s .slots .each k q) loaded }
 
 -- ---- calls with a table alone
 
@@ -127,7 +127,7 @@ pub record ReadySlot (x : System) (k : ℕ) : Type 0 where
   pub holds : HoldsPattern (x .table) k
 
 pub loaded-ready : (x : System) (k : ℕ) → SoundSystem x → k < 8 → isEmpty (slotAt (x .table) k) ≡ false → ReadySlot x k
-loaded-ready x k g q m = record { system = g; holds = record { table = g .table; slot = q; loaded = loaded-slot _ _ (g .table .each k q) m } }
+loaded-ready x k g q m = record { system = g; holds = record { table = g .table; slot = q; loaded = loaded-slot _ _ (g .table .slots .each k q) m } }
 
 pub ready-numbered : (x : System) (k : ℕ) → NoneGivesZero (systemConditions x ++ loadedSlotConditions (x .table) k)
 ready-numbered x k = numbered-parts (systemConditions x) (loadedSlotConditions (x .table) k) (system-numbered x) (loaded-slot-numbered (x .table) k)

@@ -93,3 +93,9 @@ pub widest-less : (size : ℕ) → 1 ≤ size → (l : List Extent) → ((f : Ex
 unfolding widestOf
 widest-less size some [] h = omega arith
 widest-less size some (e ∷ rest) h = omega (arith, h e (inl refl), widest-less size some rest (λ f m. h f (inr m)))
+
+-- it is one of them, and so no longer than all together
+pub widest-in-total : (l : List Extent) → widestOf l ≤ extentsTotal l
+unfolding widestOf
+widest-in-total [] = omega arith
+widest-in-total (e ∷ rest) = omega (arith, widest-in-total rest)

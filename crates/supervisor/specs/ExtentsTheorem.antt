@@ -1,24 +1,26 @@
--- Laws that the checker has shown: `free-extents-listed`, the proof that `freeExtents` lists the free extents of a sound table.
-use Prim.Native.Nat.{ℕ, zero, suc, _+_, _-_, _≤_, _<_}
+-- Laws that the checker has shown: `free-extents-listed`, the proof that `freeExtents` lists the free extents of a table whose slots are sound.
+use Prim.Native.Nat.{ℕ, zero, suc, _+_, _-_, _≤_, _<_, max}
 use mathlib.Core.Bool.{Bool, true, false}
 use mathlib.Core.List.{List, [], _∷_}
-use mathlib.Core.Logic.{inl, inr, ⊎-elim}
+use mathlib.Core.Logic.{_⊎_, inl, inr, ⊎-elim}
 use mathlib.Core.Path.{_≡_, refl, ap, _∙_}
-use native.Mathlib.Decide.{ℕ-discrete, decLt}
+use native.Mathlib.Decide.{ℕ-discrete, decLe, decLt}
+use native.Mathlib.Numerals.{add-one}
 use native.Mathlib.Omega.{arith}
 use borrow.Author.Tests.{not-false, not-true}
 use Rattle.common.specs.Choice.{if_then_else_}
 use Rattle.common.specs.Layout.{layoutSize}
 use Rattle.common.specs.Totals.{totalBelow}
 use Rattle.supervisor.specs.ExtentLaws.{Covered, rises-above, extent-covered, extent-covers, extent-rises-alone, each-covered, each-covers, each-rises}
-use Rattle.supervisor.specs.ExtentTotalLaws.{extent-total, each-total}
-use Rattle.supervisor.specs.Extents.{eachWithout, withoutSlotsBelow, freeExtents, extentsTotal}
-use Rattle.supervisor.specs.FreeExtentsListed.{IsFree, IsWholeRun, _IsOneOf_, RisesFrom, FreeExtentsListed}
-use Rattle.supervisor.specs.PartitionByteLaws.{OutsidePartition, outside-partition, outside-in-none, empty-in-none}
-use Rattle.supervisor.specs.SoundLaws.{TableSound, table-fact, unloaded-slot, loaded-slot, apart-cases}
-use Rattle.supervisor.specs.Sound.{tableSound}
+use Rattle.supervisor.specs.ExtentTotalLaws.{extent-total, each-total, widest-in-total}
+use Rattle.supervisor.specs.Extents.{eachWithout, withoutSlotsBelow, freeExtents, extentsTotal, freeTotal, widestExtent}
+use Rattle.supervisor.specs.FreeExtentsListed.{IsFree, IsFreeExtent, IsWholeRun, _IsOneOf_, RisesFrom, FreeExtentsListed}
+use Rattle.supervisor.specs.PartitionByteLaws.{OutsidePartition, outside-partition, in-partition, outside-in-none, empty-in-none}
+use Rattle.common.specs.TestLaws.{none-or-some}
+use Rattle.supervisor.specs.SoundLaws.{SlotsSound, Loaded, Unloaded, slot-fact, unloaded-slot, loaded-slot, loaded-live, apart-cases}
 use Rattle.supervisor.specs.Table.{InNoPartition, isEmpty, isInPartition, isLoaded, partitionEnd, slotAt}
 use Rattle.supervisor.specs.declared.extents.Extent.{Extent}
+use Rattle.supervisor.specs.declared.table.Partition.{Partition}
 use Rattle.supervisor.specs.declared.table.Table.{Table}
 
 -- ---- extents that rise are the whole runs of what they cover
@@ -126,7 +128,7 @@ module _ (t : Table) where
       go true e c further = let (before, outside) = each-covered (slotAt t n .partition) i (withoutSlotsBelow t n) c in one-more n i (further before) (outside-in-none (slotAt t n) i outside)
       go false e c further = one-more n i (further c) (empty-in-none (slotAt t n) i (not-false (isEmpty (slotAt t n)) e))
 
-  module _ (sound : TableSound t) where
+  module _ (sound : SlotsSound t) where
     -- a partition of a sound table has bytes
     partition-bytes : (k : ℕ) → k < 8 → isLoaded t k ≡ true → slotAt t k .partition .base .0 < partitionEnd (slotAt t k .partition)
     partition-bytes k q e = omega (arith, loaded-slot (t .size) (slotAt t k) (sound .each k q) (not-true (isEmpty (slotAt t k)) e) .partition .layout .window .some)
@@ -164,9 +166,21 @@ module _ (t : Table) where
             omega (arith, each-total (slotAt t n .partition) (partition-bytes n (omega arith) e) 0 (withoutSlotsBelow t n) (below-rises n (omega arith)) (partition-covered n (omega arith) e))
         go false e further = omega (arith, unloaded-slot (t .size) (slotAt t n) (sound .each n (omega arith)) (not-false (isEmpty (slotAt t n)) e) .bytes)
 
-    extents-listed : FreeExtentsListed t
+    -- what slot n's partition takes away
+    pub free-without-slot : (n : ℕ) → n < 8 → extentsTotal (withoutSlotsBelow t (n + 1)) + layoutSize (slotAt t n .partition .layout) ≡ extentsTotal (withoutSlotsBelow t n)
+    unfolding totalBelow
+    free-without-slot n q =
+        omega (
+          arith,
+          below-total n (omega arith),
+          below-total (suc n) (omega arith),
+          ap (λ (m : ℕ). extentsTotal (withoutSlotsBelow t m)) (add-one n),
+        )
+
+    -- What the list is. Only the slots count here: the two numbers are worked out from the list.
+    pub free-extents-listed : FreeExtentsListed t
     unfolding InNoPartition
-    extents-listed =
+    free-extents-listed =
         let rising : RisesFrom 0 (freeExtents t) = below-rises 8 (omega arith) in
         record {
           each = λ e m. whole-alike (λ i. Covered i (freeExtents t)) (IsFree t) e (below-covered 8) (below-covers 8) (one-whole e 0 (freeExtents t) rising m);
@@ -175,6 +189,67 @@ module _ (t : Table) where
           total = below-total 8 (omega arith);
         }
 
--- What the list of a sound table is.
-pub free-extents-listed : (t : Table) → tableSound t ≡ true → FreeExtentsListed t
-free-extents-listed t h = extents-listed t (table-fact t h)
+-- before the first partition is taken away, all of the memory is free
+pub free-at-first : (t : Table) → t .size ≡ extentsTotal (withoutSlotsBelow t 0)
+unfolding withoutSlotsBelow
+free-at-first t = omega (arith, extent-total 0 (t .size))
+
+-- a free byte is in an extent of the list
+pub free-covered : (t : Table) (i : ℕ) → IsFree t i → Covered i (freeExtents t)
+unfolding InNoPartition
+free-covered t i h = below-covers t 8 i h
+
+-- ---- a free extent and the partitions
+
+module _ (t : Table) (e : Extent) (free : IsFreeExtent t e) where
+  -- no partition of sound slots meets it
+  pub extent-apart : SlotsSound t → (k : ℕ) → k < 8 → (partitionEnd (slotAt t k .partition) ≤ e .start) ⊎ (e .end ≤ slotAt t k .partition .base .0)
+  unfolding InNoPartition
+  extent-apart sound k q = go (slot-fact (t .size) (slotAt t k) (sound .each k q))
+    where
+      p : Partition
+      p = slotAt t k .partition
+
+      meets : Loaded (t .size) (slotAt t k) → p .base .0 < e .end → e .start < partitionEnd p → ⊥
+      meets loaded low high =
+          let i : ℕ = max (p .base .0) (e .start) in
+          let bytes : p .base .0 < partitionEnd p = omega (arith, loaded .partition .layout .window .some) in
+          ⊎-elim (λ u. omega arith) (λ u. omega arith)
+          (outside-partition (slotAt t k) i (free .all i (omega arith) (omega (arith, free .some)) .1 k q) (loaded-live (t .size) (slotAt t k) loaded))
+
+      go : Unloaded (slotAt t k) ⊎ Loaded (t .size) (slotAt t k) → (partitionEnd (slotAt t k .partition) ≤ e .start) ⊎ (e .end ≤ slotAt t k .partition .base .0)
+      go (inl u) = inl (omega (arith, u .base, u .bytes))
+      go (inr u) = by (decLe (partitionEnd p) (e .start)) (decLe (e .end) (p .base .0))
+        where
+          by : Dec (partitionEnd p ≤ e .start) → Dec (e .end ≤ p .base .0) → (partitionEnd p ≤ e .start) ⊎ (e .end ≤ p .base .0)
+          by (yes r) s = inl r
+          by (no r) (yes s) = inr s
+          by (no r) (no s) = absurd (meets u (omega arith) (omega arith))
+
+  -- it starts at 0, or behind a partition
+  pub extent-starts : (e .start ≡ 0) ⊎ ((k : ℕ) × (k < 8) × (partitionEnd (slotAt t k .partition) ≡ e .start))
+  unfolding InNoPartition
+  extent-starts = go (decLe 1 (e .start))
+    where
+      behind : (k : ℕ) → k < 8 → isInPartition (slotAt t k) (e .start - 1) ≡ true → 1 ≤ e .start → partitionEnd (slotAt t k .partition) ≡ e .start
+      behind k q h some =
+          let (loaded, low, high) = in-partition (slotAt t k) (e .start - 1) h in
+          ⊎-elim (λ u. omega arith) (λ u. omega arith)
+          (outside-partition (slotAt t k) (e .start) (free .all (e .start) (omega arith) (free .some) .1 k q) loaded)
+
+      go : Dec (1 ≤ e .start) → (e .start ≡ 0) ⊎ ((k : ℕ) × (k < 8) × (partitionEnd (slotAt t k .partition) ≡ e .start))
+      go (no r) = inl (omega arith)
+      go (yes r) =
+          ⊎-elim
+          (λ none. absurd (free .low (e .start - 1) (omega arith) (omega (arith, free .some, free .all (e .start) (omega arith) (free .some) .0), none)))
+          (λ found. inr (found .0, found .1, behind (found .0) (found .1) (found .2) r))
+          (none-or-some 8 (λ k. isInPartition (slotAt t k) (e .start - 1)))
+
+-- ---- how much is free
+
+module _ (t : Table) (sound : SlotsSound t) where
+  pub free-few : freeTotal t ≤ 65536
+  free-few = omega (arith, free-extents-listed t sound .total, sound .size .fits)
+
+  pub widest-few : widestExtent t ≤ 65536
+  widest-few = omega (arith, widest-in-total (freeExtents t), free-few)

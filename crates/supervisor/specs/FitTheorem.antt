@@ -1,10 +1,10 @@
 -- Laws that the checker has shown: `fit-found` and `fit-then-load`, the proofs of FitFound.antt's statements.
-use Prim.Native.Nat.{ℕ, _-_, _≤_, _<_, max}
+use Prim.Native.Nat.{ℕ, _-_, _≤_, _<_}
 use lib.Dec.{ltb}
 use lib.ListN.{length}
 use mathlib.Core.Bool.{Bool, true, false, not}
 use mathlib.Core.List.{List, [], _∷_, _++_, append-assoc}
-use mathlib.Core.Logic.{_⊎_, inl, inr, ⊎-elim}
+use mathlib.Core.Logic.{⊎-elim}
 use mathlib.Core.Path.{_≡_, refl, sym, ap, _∙_}
 use native.Mathlib.Decide.{decLe}
 use native.Mathlib.Omega.{arith}
@@ -20,7 +20,7 @@ use Rattle.pattern.specs.ReaderLaws.{read-most, read-ranges, read-zero}
 use Rattle.supervisor.specs.Calls.{change, load, fit, refusal, changeConditions, queryConditions, fitAnswer, fitOf}
 use Rattle.supervisor.specs.Conditions.{tableConditions, systemConditions, emptySlotConditions}
 use Rattle.supervisor.specs.Extents.{emptyExtent, extentSize, freeExtents, widestExtent}
-use Rattle.supervisor.specs.ExtentsTheorem.{free-extents-listed}
+use Rattle.supervisor.specs.ExtentsTheorem.{extent-apart, free-extents-listed}
 use Rattle.supervisor.specs.FitFound.{IsBestFit, FitFound, NoneHoldsSize, refusalAtFit, FitThenLoad}
 use Rattle.supervisor.specs.ExtentTotalLaws.{widest-most, widest-less}
 use Rattle.supervisor.specs.FitLaws.{Wins, best-wins, best-listed}
@@ -28,11 +28,10 @@ use Rattle.supervisor.specs.FitQuery.{isSizeInRange, bestFit, fitConditi
 use Rattle.supervisor.specs.FreeExtentsListed.{IsFreeExtent, _IsOneOf_, FreeExtentsListed}
 use Rattle.supervisor.specs.Loading.{fileConditions, locationConditions, partitionFor}
 use Rattle.supervisor.specs.OutcomeLaws.{query-leaves}
-use Rattle.supervisor.specs.PartitionByteLaws.{outside-partition}
 use Rattle.supervisor.specs.Sound.{tableSound}
-use Rattle.supervisor.specs.SoundLaws.{TableSound, table-fact, Unloaded, Loaded, slot-fact, loaded-live, Apart, apart-below, apart-behind, clear-test}
+use Rattle.supervisor.specs.SoundLaws.{SlotsSound, table-fact, Apart, apart-below, apart-behind, clear-test}
 use Rattle.supervisor.specs.System.{System, slotOf}
-use Rattle.supervisor.specs.Table.{InNoPartition, isEmpty, partitionEnd, slotAt}
+use Rattle.supervisor.specs.Table.{isEmpty, partitionEnd, slotAt}
 use Rattle.supervisor.specs.declared.extents.Extent.{Extent}
 use Rattle.supervisor.specs.declared.fit_query.FitAnswer.{FitAnswer}
 use Rattle.supervisor.specs.declared.table.Partition.{Partition}
@@ -42,7 +41,7 @@ use Rattle.supervisor.specs.declared.table.Table.{Table}
 
 module _ (t : Table) (size : ℕ) (sound : tableSound t ≡ true) (some : 1 ≤ size) where
   lists : FreeExtentsListed t
-  lists = free-extents-listed t sound
+  lists = free-extents-listed t (table-fact t sound .slots)
 
   best-of-free : (f : Extent) → f IsOneOf freeExtents t → size ≤ extentSize f → Wins size (bestFit t size) f
   unfolding bestFit
@@ -163,7 +162,7 @@ module _ (t : Table) (size : ℕ) where
       accepted : FitAccepted → fitOf t size .location .0 < 65536
       accepted a =
           let inside : bestFit t size .start < t .size = a .place .free .all (bestFit t size .start) (omega arith) (a .place .free .some) .0 in
-          omega (arith, a .start, table-fact t (a .sound) .size .fits)
+          omega (arith, a .start, table-fact t (a .sound) .slots .size .fits)
 
       go : Dec (1 ≤ fitOf t size .refusal) → fitOf t size .location .0 < 65536
       go (yes q) = omega (arith, ap (λ (a : FitAnswer). a .location .0) answer-by, refused (tableSound t) (isSizeInRange size) (ltb (widestExtent t) size) (rw answer-by at q))
@@ -177,7 +176,7 @@ fit-found t size sound some most = go (ltb (widestExtent t) size) refl
     range = one-to-test size 40960 (record { some = some; fits = most })
 
     shorter : widestExtent t < size → NoneHoldsSize t size
-    shorter w e free = omega (arith, widest-most (freeExtents t) e (free-extents-listed t sound .all e free))
+    shorter w e free = omega (arith, widest-most (freeExtents t) e (free-extents-listed t (table-fact t sound .slots) .all e free))
 
     go : (b : Bool) → ltb (widestExtent t) size ≡ b → FitFound t size (fitOf t size)
     go true w =
@@ -193,7 +192,7 @@ fit-found t size sound some most = go (ltb (widestExtent t) size) refl
         let held : size ≤ widestExtent t = ltb-false _ _ w in
         let zero : fitOf t size .refusal ≡ 0 = ap (λ (a : FitAnswer). a .refusal) answer in
         record {
-          none = λ h. absurd (omega (arith, widest-less size some (freeExtents t) (λ f m. h f (free-extents-listed t sound .each f m))));
+          none = λ h. absurd (omega (arith, widest-less size some (freeExtents t) (λ f m. h f (free-extents-listed t (table-fact t sound .slots) .each f m))));
           only = λ e. absurd (omega arith);
           accepted = λ n. zero;
           place = λ e. (bestFit t size, best-place t size sound some held, ap (λ (a : FitAnswer). a .location .0) answer);
@@ -202,32 +201,16 @@ fit-found t size sound some most = go (ltb (widestExtent t) size) refl
 -- ---- the load that comes next
 
 -- a partition at the start of a free extent, and no longer than it, is inside the memory and meets no other
-module _ (t : Table) (sound : TableSound t) (e : Extent) (free : IsFreeExtent t e) (p : Partition) (from : p .base .0 ≡ e .start) (to : partitionEnd p ≤ e .end) (some : p .base .0 < partitionEnd p) where
+module _ (t : Table) (sound : SlotsSound t) (e : Extent) (free : IsFreeExtent t e) (p : Partition) (from : p .base .0 ≡ e .start) (to : partitionEnd p ≤ e .end) (some : p .base .0 < partitionEnd p) where
   inside-memory : partitionEnd p ≤ t .size
   inside-memory = omega (arith, free .all (e .end - 1) (omega (arith, free .some)) (omega (arith, free .some)) .0)
 
   apart-from-each : (j : ℕ) → j < 8 → Apart (slotAt t j .partition) p
-  unfolding InNoPartition
-  apart-from-each j q = go (slot-fact (t .size) (slotAt t j) (sound .each j q))
-    where
-      other : Partition
-      other = slotAt t j .partition
-
-      meets : Loaded (t .size) (slotAt t j) → other .base .0 < partitionEnd p → p .base .0 < partitionEnd other → ⊥
-      meets loaded low high =
-          let i : ℕ = max (other .base .0) (p .base .0) in
-          let bytes : other .base .0 < partitionEnd other = omega (arith, loaded .partition .layout .window .some) in
-          ⊎-elim (λ u. omega arith) (λ u. omega arith)
-          (outside-partition (slotAt t j) i (free .all i (omega arith) (omega arith) .1 j q) (loaded-live (t .size) (slotAt t j) loaded))
-
-      go : Unloaded (slotAt t j) ⊎ Loaded (t .size) (slotAt t j) → Apart other p
-      go (inl u) = apart-below other p (omega (arith, u .base, u .bytes))
-      go (inr u) = by (decLe (partitionEnd other) (p .base .0)) (decLe (partitionEnd p) (other .base .0))
-        where
-          by : Dec (partitionEnd other ≤ p .base .0) → Dec (partitionEnd p ≤ other .base .0) → Apart other p
-          by (yes r) s = apart-below other p r
-          by (no r) (yes s) = apart-behind other p s
-          by (no r) (no s) = absurd (meets u (omega arith) (omega arith))
+  apart-from-each j q =
+      ⊎-elim
+      (λ u. apart-below (slotAt t j .partition) p (omega arith))
+      (λ u. apart-behind (slotAt t j .partition) p (omega arith))
+      (extent-apart t e free sound j q)
 
   location-free : (k : ℕ) → NoneHolds (locationConditions t k p)
   unfolding locationConditions
@@ -262,7 +245,7 @@ module _ (x : System) (size : ℕ) (accepted : fitOf (x .table) size .refusal �
       ap (refusal (change k (load (fitOf (x .table) size .location) file))) (query-leaves (fit size) x)
       ∙ ap refusalBy (sym (append-assoc (systemConditions x ++ emptySlotConditions (x .table) k) (fileConditions file) (locationConditions (x .table) k p)))
       ∙ none-behind (frontConditions x k file) (locationConditions (x .table) k p)
-      (location-free (x .table) (table-fact (x .table) (a .sound)) (bestFit (x .table) size) (a .place .free) p (a .start) (omega (arith, a .start, a .place .holds, a .place .free .some, same)) (omega (arith, a .some, same)) k)
+      (location-free (x .table) (table-fact (x .table) (a .sound) .slots) (bestFit (x .table) size) (a .place .free) p (a .start) (omega (arith, a .start, a .place .holds, a .place .free .some, same)) (omega (arith, a .some, same)) k)
 
   -- Document 02's promise of the load that comes next.
   pub fit-then-load : FitThenLoad x size

@@ -18,7 +18,7 @@ use Rattle.common.specs.Choice.{if_then_else_}
 use Rattle.slices.specs.SliceLaws.{part-front}
 use Rattle.slices.specs.Slices.{partOf}
 use Rattle.supervisor.specs.Calls.{Call, change, run, query, refusal, afterAccepted, isAccepted, afterCall}
-use Rattle.supervisor.specs.ChangeLaws.{change-fits}
+use Rattle.supervisor.specs.ChangeLaws.{change-keeps, change-sound}
 use Rattle.supervisor.specs.ConditionLaws.{SoundSystem}
 use Rattle.supervisor.specs.Events.{Event, call, write, afterEvent, afterEvents, roundsOfCall, roundsOfEvent, roundsOfEvents}
 use Rattle.supervisor.specs.Isolation.{LeftAlone, LeftAloneThroughout, NotWritten, InNoPartitionNorWrittenThroughout, SoundThroughout, RunsAccepted, Isolation}
@@ -26,7 +26,7 @@ use Rattle.supervisor.specs.System.{System, slotOf, machineIn}
 use Rattle.supervisor.specs.Conditions.{tableConditions, systemConditions}
 use Rattle.supervisor.specs.Running.{afterRun}
 use Rattle.supervisor.specs.PartitionByteLaws.{OutsidePartition, outside-partition}
-use Rattle.supervisor.specs.PatchLaws.{slotMachine, KeepsOthers, patch-keeps}
+use Rattle.supervisor.specs.PatchLaws.{slotMachine, KeepsOthers}
 use Rattle.supervisor.specs.RoundLaws.{DiffersByRunning, rounds-running, rounds-machine}
 use Rattle.supervisor.specs.SoundLaws.{table-fact, table-test}
 use Rattle.supervisor.specs.Table.{InNoPartition, isEmpty, partitionEnd}
@@ -56,11 +56,11 @@ nothing-isolates : (e : Event) (x : System) → SoundSystem x → EventIsolates 
 nothing-isolates e x g = record { system = g; slot = λ j q m l. rw zero-mul (runs-alone-none j x m); bytes = λ i w h₀ h₁. refl }
 
 -- slot k was patched, and only who is not k was left alone
-patch-isolates : (e : Event) (k : ℕ) (x y : System) → ((j : ℕ) → LeftAlone j e x → j ≢ k) → KeepsOthers k x y → EventIsolates e 0 x y
+patch-isolates : (e : Event) (k : ℕ) (x y : System) → ((j : ℕ) → LeftAlone j e x → j ≢ k) → SoundSystem y → KeepsOthers k x y → EventIsolates e 0 x y
 unfolding times
-patch-isolates e k x y other h =
+patch-isolates e k x y other sound h =
     record {
-      system = h .system;
+      system = sound;
       slot = λ j q m l.
           let same : slotOf y j ≡ slotOf x j = h .slots j (other j l) in
           rw zero-mul
@@ -83,7 +83,7 @@ run-isolates c x g =
 
 accepted-isolates : (c : Call) (x : System) → SoundSystem x → refusal c x ≡ 0 → EventIsolates (call c) (roundsOfCall c) x (afterAccepted c x)
 unfolding afterAccepted roundsOfCall LeftAlone
-accepted-isolates (change k c) x g e = patch-isolates (call (change k c)) k x _ (λ j l q. l (sym q) e) (patch-keeps x g k _ (change-fits c x k e))
+accepted-isolates (change k c) x g e = patch-isolates (call (change k c)) k x _ (λ j l q. l (sym q) e) (change-sound x g k c e) (change-keeps x g k c e)
 accepted-isolates (run n) x g e = run-isolates n x g
 accepted-isolates (query q) x g e = nothing-isolates (call (query q)) x g
 

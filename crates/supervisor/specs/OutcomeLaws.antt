@@ -2,10 +2,11 @@
 use Prim.Native.Nat.{ℕ}
 use mathlib.Core.Bool.{Bool, true, false}
 use mathlib.Core.List.{List}
-use mathlib.Core.Path.{_≡_, refl, sym, _∙_}
+use mathlib.Core.Path.{_≡_, refl, sym, ap, _∙_}
 use borrow.Author.Tests.{ne-eqb}
 use Rattle.common.specs.Choice.{if_then_else_}
 use Rattle.supervisor.specs.Calls.{Query, Call, query, refusal, isAccepted, afterAccepted, afterCall, outcome, outcomeOf}
+use Rattle.supervisor.specs.FreeBytes.{counted}
 use Rattle.supervisor.specs.System.{System, system}
 use Rattle.supervisor.specs.declared.table.Table.{Table}
 
@@ -17,6 +18,10 @@ pub accepted-outcome : (c : Call) (x : System) (t : Table) (memory : List ℕ) {
     → outcome 0 t memory ≡ outcomeOf c x
 unfolding outcomeOf afterCall if_then_else_
 accepted-outcome c x t memory e none h = let z : refusal c x ≡ 0 = sym e ∙ none in rw (z, ← h)
+
+-- a table counted after a patch
+pub counted-patch : (y : System) (t next : Table) (memory : List ℕ) → t ≡ counted next → system next memory ≡ y → system t memory ≡ system (counted (y .table)) (y .memory)
+counted-patch y t next memory e f = ap (λ (z : Table). system z memory) e ∙ ap (λ (z : System). system (counted (z .table)) (z .memory)) f
 
 pub query-leaves : (q : Query) (x : System) → afterCall (query q) x ≡ x
 unfolding afterCall afterAccepted if_then_else_

@@ -17,11 +17,11 @@ use Rattle.common.specs.RepetitionLaws.{times-add}
 use Rattle.cpu.specs.RestLaws.{times-rests}
 use Rattle.slices.specs.SliceLaws.{copy-self}
 use Rattle.slices.specs.Slices.{copied}
-use Rattle.supervisor.specs.ConditionLaws.{SoundSystem}
+use Rattle.supervisor.specs.ConditionLaws.{SoundSystem, HoldsPattern}
 use Rattle.supervisor.specs.SlotMachineLaws.{HasLayout, bytes-length, slot-has-layout, slot-machine-bytes, written-back, machine-sound, state-sound}
 use Rattle.supervisor.specs.System.{System, system, slotOf, patched, machineIn}
 use Rattle.supervisor.specs.Running.{machineBytes, machineAfterQuantum, quantumPatch, slotQuantum, slotQuanta, afterRun}
-use Rattle.supervisor.specs.PatchLaws.{slotMachine, slot-inside, KeepsOthers, patched-slot, patch-keeps, state-fits}
+use Rattle.supervisor.specs.PatchLaws.{slotMachine, slot-inside, KeepsOthers, patched-slot, patch-keeps, state-fits, state-put}
 use Rattle.supervisor.specs.SoundLaws.{StateSound, Loaded, Unloaded, slot-fact, loaded-slot, loaded-live}
 use Rattle.supervisor.specs.Table.{InNoPartition, noSlot, slotAt, withSlot, slotWithState, isEmpty, isInPartition, partitionEnd}
 use Rattle.supervisor.specs.declared.table.Partition.{Partition}
@@ -61,7 +61,7 @@ slot-again s memory = refl
 
 with-slot-self : (t : Table) (k : ℕ) → withSlot t k (slotAt t k) ≡ t
 unfolding withSlot slotAt
-with-slot-self t k = λ i. record { size = t .size; slots = set-getD (t .slots) k noSlot i }
+with-slot-self t k = λ i. record { size = t .size; free = t .free; widest = t .widest; slots = set-getD (t .slots) k noSlot i }
 
 pub status-of : (s : Slot) (memory : List ℕ) → machineIn s memory .state .status ≡ s .state .status
 unfolding machineIn
@@ -104,12 +104,21 @@ module _ (x : System) (g : SoundSystem x) (k : ℕ) (q : k < 8) where
     next-sound =
         state-sound (slotOf x k .partition .layout) nextMachine next-has-layout (times-sound _ _ (machine-sound _ (slotOf x k) (x .memory) m slot-fits-memory))
 
+    holds : HoldsPattern (x .table) k
+    holds = record { table = g .table; slot = q; loaded = m }
+
     loaded-keeps : KeepsOthers k x (slotQuantum k x)
     unfolding slotQuantum
     loaded-keeps =
         let n = bytes-length (slotOf x k .partition .layout) nextMachine next-has-layout in
         patch-keeps x g k (quantumPatch (slotOf x k) nextMachine)
-        (state-fits x k (record { table = g .table; slot = q; loaded = m }) (nextMachine .state) (slotOf x k .partition .base) (machineBytes nextMachine) next-sound (omega arith) (omega arith))
+        (state-fits x k holds (nextMachine .state) (slotOf x k .partition .base) (machineBytes nextMachine) next-sound (omega arith) (omega arith))
+
+    loaded-system : SoundSystem (slotQuantum k x)
+    unfolding slotQuantum
+    loaded-system =
+        let n = bytes-length (slotOf x k .partition .layout) nextMachine next-has-layout in
+        state-put x k holds (nextMachine .state) (slotOf x k .partition .base) (machineBytes nextMachine) next-sound (omega arith) (omega arith) g
 
     quantum-slot : slotOf (slotQuantum k x) k ≡ slotWithState (slotOf x k) (nextMachine .state)
     unfolding slotQuantum
@@ -118,7 +127,7 @@ module _ (x : System) (g : SoundSystem x) (k : ℕ) (q : k < 8) where
     loaded-running : DiffersByRunning x (slotQuantum k x)
     loaded-running =
         record {
-          system = loaded-keeps .system;
+          system = loaded-system;
           partitions = λ j. partitions j (ℕ-discrete j k);
           loaded = λ j. live j (ℕ-discrete j k);
           bytes = λ i h. loaded-keeps .bytes i h (same-in-no-partition x (slotQuantum k x) (λ j. partitions j (ℕ-discrete j k)) (λ j. live j (ℕ-discrete j k)) i h);
@@ -142,17 +151,17 @@ module _ (x : System) (g : SoundSystem x) (k : ℕ) (q : k < 8) where
 
 module _ (x : System) (g : SoundSystem x) (k : ℕ) (q : k < 8) where
   pub quantum-running : DiffersByRunning x (slotQuantum k x)
-  quantum-running = go (slot-fact _ _ (g .table .each k q))
+  quantum-running = go (slot-fact _ _ (g .table .slots .each k q))
     where
       go : Unloaded (slotOf x k) ⊎ Loaded (x .table .size) (slotOf x k) → DiffersByRunning x (slotQuantum k x)
       go (inl u) = rw (empty-quantum x g k q u) (running-refl x g)
       go (inr m) = loaded-running x g k q m
 
   pub quantum-own : isEmpty (slotOf x k) ≡ false → slotMachine k (slotQuantum k x) ≡ times (slotOf x k .partition .quantum) machineStep (slotMachine k x)
-  quantum-own m = loaded-own x g k q (loaded-slot _ _ (g .table .each k q) m)
+  quantum-own m = loaded-own x g k q (loaded-slot _ _ (g .table .slots .each k q) m)
 
   pub quantum-other : (j : ℕ) → j < 8 → j ≢ k → slotMachine j (slotQuantum k x) ≡ slotMachine j x
-  quantum-other j p ne = go (slot-fact _ _ (g .table .each k q))
+  quantum-other j p ne = go (slot-fact _ _ (g .table .slots .each k q))
     where
       go : Unloaded (slotOf x k) ⊎ Loaded (x .table .size) (slotOf x k) → slotMachine j (slotQuantum k x) ≡ slotMachine j x
       go (inl u) = rw (empty-quantum x g k q u)

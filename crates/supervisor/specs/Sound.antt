@@ -1,4 +1,4 @@
--- Definitions that must be believed: which tables are sound (document 01, "Floor and bays").
+-- Definitions that must be believed: which tables are sound (document 01, "Floor and bays"; document 02, U5).
 use Prim.Native.Nat.{ℕ}
 use lib.Dec.{eqb, leb, ltb}
 use lib.ListN.{getD, length}
@@ -9,6 +9,7 @@ use Rattle.common.specs.Ranges.{isOneTo}
 use Rattle.common.specs.Tests.{all, allBelow}
 use Rattle.cpu.specs.Cpu.{storedPsu}
 use Rattle.cpu.specs.Result.{lastStatus}
+use Rattle.supervisor.specs.FreeBytes.{isCounted}
 use Rattle.supervisor.specs.Table.{partitionEnd, slotAt}
 use Rattle.common.specs.declared.layout.Layout.{Layout}
 use Rattle.cpu.specs.declared.state.State.{State}
@@ -83,11 +84,15 @@ unfoldable pub isClearOfOthers : Table → ℕ → Partition → Bool
 isClearOfOthers t except p = allBelow 8 (λ j. eqb j except || areApart (slotAt t j .partition) p)
 
 -- the memory's length is 1 to 65,536; each of the eight slots is sound; the partitions are disjoint
-unfoldable pub tableSound : Table → Bool
-tableSound t =
+unfoldable pub slotsSound : Table → Bool
+slotsSound t =
     all
     (isOneTo (t .size) 65536
     ∷ eqb (length (t .slots)) 8
     ∷ allBelow 8 (λ k. slotSound (t .size) (slotAt t k))
     ∷ allBelow 8 (λ k. isClearOfOthers t k (slotAt t k .partition))
     ∷ [])
+
+-- a sound table: its slots are sound, and its two numbers are those of its free bytes
+unfoldable pub tableSound : Table → Bool
+tableSound t = slotsSound t && isCounted t

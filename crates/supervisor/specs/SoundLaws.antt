@@ -1,15 +1,16 @@
 -- Laws that the checker has shown: soundness as facts with names, what the tests say and back.
-use mathlib.Core.Bool.{Bool, true, false, _&&_, _||_, false≢true}
+use mathlib.Core.Bool.{Bool, true, false, _&&_, _||_, not, false≢true}
 use mathlib.Core.List.{List}
 use mathlib.Core.Logic.{_≢_, _⊎_, inl, inr}
-use mathlib.Core.Path.{_≡_, sym, _∙_, refl}
-use Prim.Native.Nat.{ℕ, _≤_, _<_}
+use mathlib.Core.Path.{_≡_, sym, ap, _∙_, refl}
+use Prim.Native.Nat.{ℕ, zero, suc, _≤_, _<_}
 use native.Mathlib.Decide.{ℕ-discrete, decLt}
 use native.Mathlib.Omega.{arith}
 use borrow.Author.Tests.{leb-true, le-leb, ltb-true, lt-ltb, eqb-true, eq-eqb, ne-eqb}
 use lib.Dec.{eqb, leb}
 use lib.ListN.{getD, length, length-set, List·getD-eq-default}
 use lib.Seq.{getD-set-same, getD-set-other}
+use Rattle.common.specs.Choice.{if_then_else_}
 use Rattle.common.specs.LayoutLaws.{LayoutSound, layout-fact, layout-test}
 use Rattle.common.specs.Layout.{layoutSize}
 use Rattle.common.specs.TestLaws.{and-fact, and-test, or-fact, or-left, or-right, when-fact, when-test, OneTo, one-to-fact, one-to-test, all-fact, all-test, below-fact, below-test}
@@ -17,8 +18,10 @@ use Rattle.common.specs.declared.layout.Layout.{Layout}
 use Rattle.cpu.specs.Result.{lastStatus}
 use Rattle.cpu.specs.Cpu.{storedPsu}
 use Rattle.cpu.specs.declared.state.State.{State}
-use Rattle.supervisor.specs.Table.{noSlot, slotAt, withSlot, isEmpty, partitionEnd}
-use Rattle.supervisor.specs.Sound.{partitionSound, allFifteenBits, stateSound, isZeroPartition, isZeroState, slotSound, areApart, isClearOfOthers, tableSound}
+use Rattle.supervisor.specs.Table.{noSlot, slotAt, withFreeBytes, withSlot, isEmpty, partitionEnd}
+use Rattle.supervisor.specs.Extents.{eachWithout, extentsTotal, withoutSlotsBelow, freeExtents, freeTotal, widestOf, widestExtent}
+use Rattle.supervisor.specs.FreeBytes.{isCounted, counted}
+use Rattle.supervisor.specs.Sound.{partitionSound, allFifteenBits, stateSound, isZeroPartition, isZeroState, slotSound, areApart, isClearOfOthers, slotsSound, tableSound}
 use Rattle.supervisor.specs.declared.table.Partition.{Partition}
 use Rattle.supervisor.specs.declared.table.Slot.{Slot}
 use Rattle.supervisor.specs.declared.table.Table.{Table}
@@ -222,9 +225,9 @@ module _ (t : Table) (except : ℕ) (p : Partition) where
       go j q (yes e) = or-left (eqb j except) (areApart (slotAt t j .partition) p) (eq-eqb j except e)
       go j q (no e) = or-right (eqb j except) (areApart (slotAt t j .partition) p) (apart-test (slotAt t j .partition) p (h j q e))
 
--- ---- a sound table
+-- ---- sound slots
 
-pub record TableSound (t : Table) : Type 0 where
+pub record SlotsSound (t : Table) : Type 0 where
   pub size : OneTo (t .size) 65536
   pub eight : length (t .slots) ≡ 8
   pub each : (k : ℕ) → k < 8 → slotSound (t .size) (slotAt t k) ≡ true
@@ -237,9 +240,9 @@ module _ (t : Table) where
   slotIsClear : ℕ → Bool
   slotIsClear k = isClearOfOthers t k (slotAt t k .partition)
 
-  pub table-fact : tableSound t ≡ true → TableSound t
-  unfolding tableSound slotIsSound slotIsClear
-  table-fact h =
+  pub slots-fact : slotsSound t ≡ true → SlotsSound t
+  unfolding slotsSound slotIsSound slotIsClear
+  slots-fact h =
       let (size, (eight, (each, (disjoint, _)))) = all-fact _ h in
       record {
         size = one-to-fact _ 65536 size;
@@ -248,9 +251,9 @@ module _ (t : Table) where
         disjoint = λ j k p q ne. clear-fact t k (slotAt t k .partition) (below-fact 8 slotIsClear disjoint k q) j p ne;
       }
 
-  pub table-test : TableSound t → tableSound t ≡ true
-  unfolding tableSound slotIsSound slotIsClear
-  table-test f =
+  pub slots-test : SlotsSound t → slotsSound t ≡ true
+  unfolding slotsSound slotIsSound slotIsClear
+  slots-test f =
       all-test _ (
         one-to-test _ 65536 (f .size),
         (
@@ -261,6 +264,61 @@ module _ (t : Table) where
           ),
         ),
       )
+
+-- ---- the free extents depend on the partitions of the loaded slots alone
+
+pub extents-alike : (t u : Table) → t .size ≡ u .size → ((k : ℕ) → isEmpty (slotAt t k) ≡ isEmpty (slotAt u k)) → ((k : ℕ) → slotAt t k .partition ≡ slotAt u k .partition)
+    → (n : ℕ) → withoutSlotsBelow t n ≡ withoutSlotsBelow u n
+unfolding withoutSlotsBelow
+extents-alike t u size empty partition zero = rw size
+extents-alike t u size empty partition (suc n) =
+    let before : withoutSlotsBelow t n ≡ withoutSlotsBelow u n = extents-alike t u size empty partition n in
+    λ i. if not (empty n i) then eachWithout (partition n i) (before i) else before i
+
+-- ---- a sound table
+
+pub record TableSound (t : Table) : Type 0 where
+  pub slots : SlotsSound t
+  pub free : t .free ≡ freeTotal t
+  pub widest : t .widest ≡ widestExtent t
+
+module _ (t : Table) where
+  pub table-fact : tableSound t ≡ true → TableSound t
+  unfolding tableSound isCounted
+  table-fact h =
+      let (slots, numbers) = and-fact (slotsSound t) _ h in
+      let (free, widest) = and-fact (eqb (t .free) (freeTotal t)) _ numbers in
+      record { slots = slots-fact t slots; free = eqb-true _ _ free; widest = eqb-true _ _ widest }
+
+  pub table-test : TableSound t → tableSound t ≡ true
+  unfolding tableSound isCounted
+  table-test f =
+      and-test (slotsSound t) _ (slots-test t (f .slots)) (and-test (eqb (t .free) (freeTotal t)) _ (eq-eqb _ _ (f .free)) (eq-eqb _ _ (f .widest)))
+
+-- ---- the two numbers say nothing of the slots; counting the free bytes makes sound slots a sound table
+
+pub numbered-slots : (t : Table) (free widest : ℕ) → SlotsSound t → SlotsSound (withFreeBytes t free widest)
+unfolding slotAt
+numbered-slots t free widest f = record { size = f .size; eight = f .eight; each = f .each; disjoint = f .disjoint }
+
+pub counted-sound : (t : Table) → SlotsSound t → TableSound (counted t)
+unfolding slotAt
+counted-sound t f =
+    let same : freeExtents (counted t) ≡ freeExtents t = extents-alike (counted t) t refl (λ k. refl) (λ k. refl) 8 in
+    record { slots = numbered-slots t _ _ f; free = ap extentsTotal (sym same); widest = ap widestOf (sym same) }
+
+-- a sound table is counted already
+pub counted-same : (t : Table) → TableSound t → counted t ≡ t
+counted-same t h = λ i. record { size = t .size; free = sym (h .free) i; widest = sym (h .widest) i; slots = t .slots }
+
+-- a counted table is sound exactly if its slots are
+pub counted-test : (t : Table) → tableSound (counted t) ≡ slotsSound t
+unfolding tableSound slotsSound isClearOfOthers slotAt
+counted-test t = go (slotsSound t) refl
+  where
+    go : (b : Bool) → slotsSound t ≡ b → tableSound (counted t) ≡ b
+    go true e = table-test (counted t) (counted-sound t (slots-fact t e))
+    go false e = rw e refl
 
 -- ---- one slot put anew
 
@@ -281,7 +339,7 @@ module _ (t : Table) (k : ℕ) (s : Slot) where
   unfolding withSlot
   with-slot-count = length-set (t .slots) k s
 
-  pub with-slot-sound : TableSound t → k < 8 → slotSound (t .size) s ≡ true → ((j : ℕ) → j < 8 → j ≢ k → Apart (slotAt t j .partition) (s .partition)) → TableSound (withSlot t k s)
+  pub with-slot-sound : SlotsSound t → k < 8 → slotSound (t .size) s ≡ true → ((j : ℕ) → j < 8 → j ≢ k → Apart (slotAt t j .partition) (s .partition)) → SlotsSound (withSlot t k s)
   with-slot-sound h q ok free =
       record {
         size = rw with-slot-size (h .size);
@@ -302,3 +360,22 @@ module _ (t : Table) (k : ℕ) (s : Slot) where
       disjoint i j p r ne (yes e) (no f) = rw (e, with-slot-same kin, with-slot-other j f) (apart-sym _ _ (free j r f))
       disjoint i j p r ne (no e) (yes f) = rw (f, with-slot-same kin, with-slot-other i e) (free i p e)
       disjoint i j p r ne (no e) (no f) = rw (with-slot-other i e, with-slot-other j f) (h .disjoint i j p r ne)
+
+  -- a slot with the same partition, loaded as it was, leaves the free extents
+  with-slot-extents : s .partition ≡ slotAt t k .partition → isEmpty s ≡ isEmpty (slotAt t k) → k < length (t .slots) → freeExtents (withSlot t k s) ≡ freeExtents t
+  with-slot-extents same empty q = extents-alike (withSlot t k s) t with-slot-size (λ j. loaded j (ℕ-discrete j k)) (λ j. partition j (ℕ-discrete j k)) 8
+    where
+      loaded : (j : ℕ) → Dec (j ≡ k) → isEmpty (slotAt (withSlot t k s) j) ≡ isEmpty (slotAt t j)
+      loaded j (yes e) = rw (e, with-slot-same q) empty
+      loaded j (no e) = ap (λ (z : Slot). isEmpty z) (with-slot-other j e)
+
+      partition : (j : ℕ) → Dec (j ≡ k) → slotAt (withSlot t k s) j .partition ≡ slotAt t j .partition
+      partition j (yes e) = rw (e, with-slot-same q) same
+      partition j (no e) = ap (λ (z : Slot). z .partition) (with-slot-other j e)
+
+  -- so the two numbers stay true
+  pub with-slot-counted : TableSound t → SlotsSound (withSlot t k s) → k < 8 → s .partition ≡ slotAt t k .partition → isEmpty s ≡ isEmpty (slotAt t k) → TableSound (withSlot t k s)
+  unfolding withSlot
+  with-slot-counted h slots q same empty =
+      let e : freeExtents (withSlot t k s) ≡ freeExtents t = with-slot-extents same empty (omega (arith, h .slots .eight)) in
+      record { slots = slots; free = h .free ∙ ap extentsTotal (sym e); widest = h .widest ∙ ap widestOf (sym e) }

@@ -29,7 +29,11 @@ unfoldable pub slotAt : Table → ℕ → Slot
 slotAt t k = getD (t .slots) k noSlot
 
 unfoldable pub withSlot : Table → ℕ → Slot → Table
-withSlot t k s = record { size = t .size; slots = set (t .slots) k s }
+withSlot t k s = record { size = t .size; free = t .free; widest = t .widest; slots = set (t .slots) k s }
+
+-- the table with other numbers of its free bytes
+abbrev pub withFreeBytes : Table → (free widest : ℕ) → Table
+withFreeBytes t free widest = record { size = t .size; free = free; widest = widest; slots = t .slots }
 
 -- the slot with another state in it
 abbrev pub slotWithState : Slot → State → Slot
@@ -61,9 +65,9 @@ InNoPartition i t = (k : ℕ) → k < 8 → isInPartition (slotAt t k) i ≡ fal
 unfoldable pub emptySlot : Slot
 emptySlot = record { partition = emptyPartition; state = emptyState (freshCpu (record { 0 = 0 })) }
 
--- a table of eight empty slots, for a memory of that length
+-- a table of eight empty slots, for a memory of that length: all of it is free, and one extent (document 02, U5)
 abbrev pub emptyTable : ℕ → Table
-emptyTable size = record { size = size; slots = replicate 8 emptySlot }
+emptyTable size = record { size = size; free = size; widest = size; slots = replicate 8 emptySlot }
 
 -- the number that refuses a new table, 0 for none
 unfoldable pub newRefusal : ℕ → ℕ

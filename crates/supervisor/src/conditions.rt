@@ -8,7 +8,7 @@ ghost use Rattle.supervisor.specs.System.{system};
 ghost use Rattle.supervisor.specs.Conditions.{tableConditions, systemConditions, emptySlotConditions, loadedSlotConditions};
 
 // The refusal of a call with a table, 0 for none.
-pub(crate) fn table_refusal(table: Table) -> u8
+pub fn table_refusal(table: Table) -> u8
     ensures { λ r. ⌜ r ≡ refusalBy (tableConditions table) ⌝ }
 {
     if table_sound(table) { 0 } else { 1 }

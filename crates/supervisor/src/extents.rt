@@ -8,7 +8,7 @@ ghost use mathlib.Core.Path.{_≡_};
 ghost use Prim.Native.Nat.{_≤_, max, min};
 ghost use lib.ListN.{length, take};
 ghost use Rattle.supervisor.specs.Extents.{emptyExtent, extentSize, extentBetween, withoutPartition, eachWithout, freeExtents};
-ghost use Rattle.supervisor.specs.Sound.{tableSound};
+ghost use Rattle.supervisor.specs.Sound.{slotsSound};
 
 // The bytes of memory from `start` on, up to `end` and without it.
 pub(crate) struct Extent {
@@ -52,13 +52,13 @@ impl ExtentList {
     }
 }
 
-fn min(a: usize, b: usize) -> usize
+pub(crate) fn min(a: usize, b: usize) -> usize
     ensures { λ r. ⌜ r ≡ min a b ⌝ }
 {
     if a <= b { a } else { b }
 }
 
-fn max(a: usize, b: usize) -> usize
+pub(crate) fn max(a: usize, b: usize) -> usize
     ensures { λ r. ⌜ r ≡ max a b ⌝ }
 {
     if a <= b { b } else { a }
@@ -112,9 +112,9 @@ fn each_without(p: Partition, list: ExtentList) -> ExtentList
     left
 }
 
-// The free extents of a sound table: the memory without the partition of each loaded slot.
+// The free extents of a table whose slots are sound: the memory without the partition of each loaded slot.
 pub(crate) fn free_extents(table: Table) -> ExtentList
-    requires { ⌜ tableSound table ≡ true ⌝ }
+    requires { ⌜ slotsSound table ≡ true ⌝ }
     ensures { λ r. ⌜ r .count ≤ 9 ⌝ }
     ensures { λ r. ⌜ take (r .count) (r .extents) ≡ freeExtents table ⌝ }
 {

@@ -1,5 +1,6 @@
 // Loading: a pattern file into an empty slot and its partition.
 use crate::conditions::system_empty_slot_refusal;
+use crate::free_bytes::count_free;
 use crate::sound::is_clear_of_others;
 use crate::table::Answer;
 use crate::table::Partition;
@@ -86,6 +87,6 @@ pub fn load(table: Table, memory: &mut [u8], slot: usize, location: Location, fi
     let next = load_slot(table, memory, slot, partition, parameters, file);
     Answer {
         refusal: 0,
-        table: next,
+        table: count_free(next),
     }
 }

@@ -1,4 +1,5 @@
-// Whether a table is sound. Each test is written without a branch, in the shape of its definition.
+// Whether a table is sound. Each test of a slot is written without a branch, in the shape of its definition.
+use crate::free_bytes::is_counted;
 use crate::table::Partition;
 use crate::table::Slot;
 use crate::table::Table;
@@ -9,7 +10,7 @@ use cpu::stored_psu;
 ghost use mathlib.Core.Path.{_≡_};
 ghost use Rattle.common.specs.Tests.{allBelow};
 ghost use Rattle.supervisor.specs.Table.{slotAt};
-ghost use Rattle.supervisor.specs.Sound.{allFifteenBits, allZero, partitionSound, stateSound, isZeroPartition, isZeroState, slotSound, areApart, isClearOfOthers, tableSound};
+ghost use Rattle.supervisor.specs.Sound.{allFifteenBits, allZero, partitionSound, stateSound, isZeroPartition, isZeroState, slotSound, areApart, isClearOfOthers, slotsSound, tableSound};
 
 fn partition_sound(size: u32, p: Partition) -> bool
     ensures { λ r. ⌜ r ≡ partitionSound size p ⌝ }
@@ -135,7 +136,7 @@ pub(crate) fn is_clear_of_others(table: Table, except: usize, p: Partition) -> b
     ok
 }
 
-fn slots_sound(table: Table) -> bool
+fn each_slot_sound(table: Table) -> bool
     ensures { λ r. ⌜ r ≡ allBelow 8 (λ k. slotSound (table .size) (slotAt table k)) ⌝ }
 {
     let mut ok = true;
@@ -162,9 +163,19 @@ fn slots_apart(table: Table) -> bool
     ok
 }
 
-// Whether the table is sound. That it has eight slots is its type.
+// Whether the slots are sound, and the memory's length. That there are eight slots is their type.
+pub(crate) fn slots_sound(table: Table) -> bool
+    ensures { λ r. ⌜ r ≡ slotsSound table ⌝ }
+{
+    is_one_to(table.size as usize, Table::MAX_MEMORY) & each_slot_sound(table) & slots_apart(table)
+}
+
+// Whether the table is sound. Its free bytes are counted only if its slots are sound.
 pub(crate) fn table_sound(table: Table) -> bool
     ensures { λ r. ⌜ r ≡ tableSound table ⌝ }
 {
-    is_one_to(table.size as usize, Table::MAX_MEMORY) & slots_sound(table) & slots_apart(table)
+    if !slots_sound(table) {
+        return false;
+    }
+    is_counted(table)
 }

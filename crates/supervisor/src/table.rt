@@ -60,9 +60,12 @@ impl Slot {
     }
 }
 
-// Document 01's record: the length of the memory, and eight slots.
+// Document 01's record: the length of the memory, how many of its bytes are in no partition, the length of the widest free extent (document
+// 02, U5), and eight slots.
 pub struct Table {
     pub size: u32,
+    pub free: u32,
+    pub widest: u32,
     pub slots: [Slot; 8],
 }
 
@@ -84,7 +87,12 @@ impl Table {
     {
         let empty = Slot::empty();
         let slots = [empty; 8];
-        Table { size, slots }
+        Table {
+            size,
+            free: size,
+            widest: size,
+            slots,
+        }
     }
 
     // Document 01's fresh record, for a memory of that length, which it does not touch.

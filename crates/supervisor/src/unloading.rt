@@ -1,5 +1,6 @@
 // Unloading: the partition is zeroed, so that nothing of the pattern is left, and the slot emptied.
 use crate::conditions::system_loaded_slot_refusal;
+use crate::free_bytes::count_free;
 use crate::table::Answer;
 use crate::table::Slot;
 use crate::table::Table;
@@ -26,6 +27,6 @@ pub fn unload(table: Table, memory: &mut [u8], slot: usize) -> Answer
     next.slots[slot] = empty;
     Answer {
         refusal: 0,
-        table: next,
+        table: count_free(next),
     }
 }

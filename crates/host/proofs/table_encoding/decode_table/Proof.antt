@@ -1,71 +1,32 @@
--- `host::table_encoding::decode_table`: each iteration reads one slot.
-use Prim.Native.Nat.{_+_, _*_, _-_}
-use lib.ListN.{length-replicate}
-use Rattle.slices.specs.PieceLaws.{TabulatedTo, tabulated-none, tabulated-next, tabulated-all}
-use Rattle.slices.specs.Slices.{partOf}
-use Rattle.host.specs.TableEncoding.{slotLength, slotsOffset, slotFromBytes, tableFromBytes}
+-- `host::table_encoding::decode_table`: three numbers, and the slots behind them.
+use native.Mathlib.Omega.{arith}
+use Rattle.host.specs.TableEncoding.{tableFromBytes}
 use borrow.Author.Needs.{needs}
 use Rattle.host.proofs.table_encoding.decode_table.Statement.{statement}
 use Rattle.host.proofs.table_encoding.decode_table.Tie as tie
 
-abbrev Inv-loop : tie.InvT-loop
-Inv-loop bytes size slots₀ k₀ slots k = TabulatedTo 8 (λ i. slotFromBytes (partOf bytes (slotsOffset + slotLength * i) slotLength)) k slots
-
-abbrev μ-loop : tie.MeasureT-loop
-μ-loop bytes size slots₀ k₀ slots k = 8 - k
-
-u32-at-requires : tie.Need-u32-at-requires Inv-loop μ-loop
+u32-at-requires : tie.Need-u32-at-requires
 u32-at-requires c κs = search needs
 
-decode-slot-requires : tie.Need-decode-slot-requires Inv-loop μ-loop
-decode-slot-requires c κs = search needs
+u32-at-requires-2 : tie.Need-u32-at-requires-2
+u32-at-requires-2 c κs = search needs
 
-loop-holds : tie.Need-loop-holds Inv-loop μ-loop
-loop-holds c = tabulated-none _ _ _ (length-replicate 8 (c .decode-slot .result))
+u32-at-requires-3 : tie.Need-u32-at-requires-3
+u32-at-requires-3 c κs = search needs
 
-mul-decode-slot : tie.Need-mul-decode-slot Inv-loop μ-loop
-mul-decode-slot c = search needs
+decode-slots-requires : tie.Need-decode-slots-requires
+decode-slots-requires c κs = omega arith
 
-add-decode-slot : tie.Need-add-decode-slot Inv-loop μ-loop
-add-decode-slot c = search needs
-
-decode-slot-requires-2 : tie.Need-decode-slot-requires-2 Inv-loop μ-loop
-decode-slot-requires-2 c κs = search needs
-
-mul-slots : tie.Need-mul-slots Inv-loop μ-loop
-mul-slots c = search needs
-
-array-set-from-slots : tie.Need-array-set-from-slots Inv-loop μ-loop
-array-set-from-slots c = search needs
-
-add-k : tie.Need-add-k Inv-loop μ-loop
-add-k c = search needs
-
-loop-less : tie.Need-loop-less Inv-loop μ-loop
-loop-less c = search needs
-
-loop-again : tie.Need-loop-again Inv-loop μ-loop
-loop-again c = tabulated-next _ _ (c .before .before .loop .k) _ (c .before .before .loop .inv) _ (c .before .loop-test .taken) (c .decode-slot2 .ensures)
-
-returns : tie.Need-returns Inv-loop μ-loop
+returns : tie.Need-returns
 unfolding tableFromBytes
-returns c = rw (c .before .before .before .u32-at .ensures, tabulated-all _ _ (c .before .loop .k) _ (c .before .loop .inv) (c .loop-test .left))
+returns c = rw (c .before .before .before .u32-at .ensures, c .before .before .u32-at2 .ensures, c .before .u32-at3 .ensures, c .decode-slots .ensures)
 
 pub decode-table-spec : {M : Type 1} → statement M
 decode-table-spec =
     tie.close
     (tie.spec
-    Inv-loop
-    μ-loop
     u32-at-requires
-    decode-slot-requires
-    loop-holds
-    mul-decode-slot
-    add-decode-slot
-    decode-slot-requires-2
-    mul-slots
-    array-set-from-slots
-    add-k
-    loop-less
-    loop-again
+    u32-at-requires-2
+    u32-at-requires-3
+    decode-slots-requires
     returns)

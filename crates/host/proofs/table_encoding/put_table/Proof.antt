@@ -1,4 +1,4 @@
--- `host::table_encoding::put_table`: the memory's length, and then each iteration puts one slot behind the last.
+-- `host::table_encoding::put_table`: the head, and then each iteration puts one slot behind the last.
 use Prim.Native.Nat.{_*_, _-_, _≤_}
 use denote.Ref.{now}
 use lib.ListN.{length, length-map}
@@ -6,11 +6,10 @@ use mathlib.Core.List.{map}
 use mathlib.Core.Path.{_≡_, refl, sym, _∙_}
 use native.Mathlib.Omega.{arith}
 use Rattle.slices.specs.SliceLaws.{copied-next, copied-all}
-use Rattle.slices.specs.Numbers.{u32Bytes}
 use Rattle.slices.specs.PieceLaws.{PiecesPut, pieces-none, pieces-more, pieces-all, pieces-size}
 use Rattle.slices.specs.Slices.{concat}
 use Rattle.supervisor.specs.Table.{noSlot}
-use Rattle.host.specs.TableEncoding.{slotLength, slotsOffset, tableLength, slotBytes, tableBytes}
+use Rattle.host.specs.TableEncoding.{slotLength, slotsOffset, tableLength, slotBytes, headBytes, tableBytes}
 use borrow.Author.Needs.{needs}
 use Rattle.host.proofs.table_encoding.put_table.Statement.{statement}
 use Rattle.host.proofs.table_encoding.put_table.Tie as tie
@@ -21,8 +20,8 @@ Inv-loop bytes₀ table k₀ bytes k = PiecesPut slotBytes slotLength (table .sl
 abbrev μ-loop : tie.MeasureT-loop
 μ-loop bytes₀ table k₀ bytes k = 8 - k
 
-put-u32-requires : tie.Need-put-u32-requires Inv-loop μ-loop
-put-u32-requires c κs = search needs
+put-head-requires : tie.Need-put-head-requires Inv-loop μ-loop
+put-head-requires c κs = omega (arith, c .before .before .pre)
 
 loop-holds : tie.Need-loop-holds Inv-loop μ-loop
 loop-holds c = pieces-none _ _ _ _ _
@@ -50,23 +49,23 @@ loop-less c = search needs
 
 loop-again : tie.Need-loop-again Inv-loop μ-loop
 loop-again c = let t = c .before .before .before .before .before .before .before .before .before .before .before .before .args .t2 in
-    let eight : length (t .slots) ≡ 8 = sym (length-map (t .slots) _) ∙ c .before .before .before .before .before .before .before .before .before .before .before .before .good .1 .0 .1 .1 .1 .0 .1 .0 .1 in
-    let whole : length (c .before .before .before .before .before .before .before .before .before .put-u32 .last .0) ≡ tableLength = c .before .before .before .before .before .before .before .before .before .put-u32 .kept .0 ∙ c .before .before .before .before .before .before .before .before .before .before .before .before .pre in
-    pieces-more slotBytes slotLength (t .slots) (c .before .before .before .before .before .before .before .before .before .put-u32 .last .0) slotsOffset (c .before .before .before .before .before .before .loop .k) (c .before .before .before .before .before .before .loop .bytes) (c .before .before .before .before .before .before .loop .inv) noSlot _ (omega arith) (c .before .before .put-slot .ensures .1) (omega arith) (c .before .before .put-slot .ensures .0)
+    let eight : length (t .slots) ≡ 8 = sym (length-map (t .slots) _) ∙ c .before .before .before .before .before .before .before .before .before .before .before .before .good .1 .0 .1 .1 .1 .1 .1 .0 .1 .0 .1 in
+    let whole : length (c .before .before .before .before .before .before .before .before .before .put-head .last .0) ≡ tableLength = c .before .before .before .before .before .before .before .before .before .put-head .kept .0 ∙ c .before .before .before .before .before .before .before .before .before .before .before .before .pre in
+    pieces-more slotBytes slotLength (t .slots) (c .before .before .before .before .before .before .before .before .before .put-head .last .0) slotsOffset (c .before .before .before .before .before .before .loop .k) (c .before .before .before .before .before .before .loop .bytes) (c .before .before .before .before .before .before .loop .inv) noSlot _ (omega arith) (c .before .before .put-slot .ensures .1) (omega arith) (c .before .before .put-slot .ensures .0)
 
 same-length : tie.Need-same-length Inv-loop μ-loop
-same-length c = c .before .loop .inv .kept ∙ c .before .before .before .before .put-u32 .kept .0
+same-length c = c .before .loop .inv .kept ∙ c .before .before .before .before .put-head .kept .0
 
 returns : tie.Need-returns Inv-loop μ-loop
-unfolding tableBytes
+unfolding tableBytes headBytes
 returns c = let t = c .before .before .before .before .before .before .before .args .t2 in
     let l = now (c .before .before .before .before .before .before .before .args .bytes) in
-    let eight : length (t .slots) ≡ 8 = sym (length-map (t .slots) _) ∙ c .before .before .before .before .before .before .before .good .1 .0 .1 .1 .1 .0 .1 .0 .1 in
+    let eight : length (t .slots) ≡ 8 = sym (length-map (t .slots) _) ∙ c .before .before .before .before .before .before .before .good .1 .0 .1 .1 .1 .1 .1 .0 .1 .0 .1 in
     let whole : length l ≡ tableLength = c .before .before .before .before .before .before .before .pre in
     let past : length (t .slots) ≤ c .before .loop .k = omega arith in
-    let size : length (concat (map slotBytes (t .slots))) ≡ slotLength * length (t .slots) = pieces-size slotBytes slotLength (t .slots) (c .before .before .before .before .put-u32 .last .0) slotsOffset (c .before .loop .k) (c .before .loop .bytes) (c .before .loop .inv) past in
-    copied-next l (c .before .before .before .before .put-u32 .last .0) (c .before .loop .bytes) 0 slotsOffset (u32Bytes (t .size)) (concat (map slotBytes (t .slots))) (c .before .before .before .before .put-u32 .ensures)
-    (pieces-all slotBytes slotLength (t .slots) (c .before .before .before .before .put-u32 .last .0) slotsOffset (c .before .loop .k) (c .before .loop .bytes) (c .before .loop .inv) past) refl (omega arith)
+    let size : length (concat (map slotBytes (t .slots))) ≡ slotLength * length (t .slots) = pieces-size slotBytes slotLength (t .slots) (c .before .before .before .before .put-head .last .0) slotsOffset (c .before .loop .k) (c .before .loop .bytes) (c .before .loop .inv) past in
+    copied-next l (c .before .before .before .before .put-head .last .0) (c .before .loop .bytes) 0 slotsOffset (headBytes t) (concat (map slotBytes (t .slots))) (c .before .before .before .before .put-head .ensures)
+    (pieces-all slotBytes slotLength (t .slots) (c .before .before .before .before .put-head .last .0) slotsOffset (c .before .loop .k) (c .before .loop .bytes) (c .before .loop .inv) past) refl (omega arith)
     ∙ copied-all l (tableBytes t) (omega arith)
 
 pub put-table-spec : {M : Type 1} → statement M
@@ -75,7 +74,7 @@ put-table-spec =
     (tie.spec
     Inv-loop
     μ-loop
-    put-u32-requires
+    put-head-requires
     loop-holds
     mul-s
     element-copy-out-s

@@ -1,6 +1,8 @@
-use Rattle.lend.specs.AloneLaws.{not-new, new-table, by-draining}
+-- `lend::lent::drain_slot`: a table of this slot alone is refused by its length, by its slot, or drained (AloneLaws.antt).
+use Rattle.lend.specs.AloneLaws.{not-new, not-alone, new-table, by-draining}
 use Rattle.lend.specs.Lent.{drainSlotOutcome}
 use Rattle.lend.specs.declared.lent.SlotAnswer.{SlotAnswer}
+use Rattle.supervisor.specs.RecountingLaws.{recount-accepted, recount-refused}
 use Rattle.supervisor.specs.Table.{slotAt, withSlot}
 use mathlib.Core.Path.{_∙_, ap, sym}
 use borrow.Author.Needs.{needs}
@@ -19,6 +21,18 @@ returns c = ap (λ (r : SlotAnswer). drainSlotOutcome r (c .before .before .befo
 element-set-from-slot : tie.Need-element-set-from-slot
 element-set-from-slot c = search needs
 
+recount-requires : tie.Need-recount-requires
+recount-requires c κs = search needs
+
+refused-answer-requires-2 : tie.Need-refused-answer-requires-2
+refused-answer-requires-2 c κs = search needs
+
+returns-2 : tie.Need-returns-2
+unfolding withSlot
+returns-2 c =
+    let why = recount-refused _ (c .before .before .before .recount .ensures) (c .before .if2 .taken) in
+    ap (λ (r : SlotAnswer). drainSlotOutcome r (c .before .before .before .before .before .before .before .before .before .before .args .buffer .now)) (c .refused-answer2 .ensures) ∙ not-alone (c .before .before .before .before .before .before .before .before .before .before .args .slot) (c .before .before .before .before .before .before .before .before .before .before .args .memory .now) (c .before .before .before .before .before .before .before .before .before .before .args .buffer .now) _ (c .before .before .before .before .before .before .before .new .ensures .1 ∙ new-table _ (sym (c .before .before .before .before .before .before .before .new .ensures .0) ∙ c .before .before .before .before .before .if1 .left)) (why .0) (why .1)
+
 drain-requires : tie.Need-drain-requires
 drain-requires c κs = search needs
 
@@ -28,9 +42,9 @@ element-copy-out-slot c = search needs
 same-length : tie.Need-same-length
 same-length c = search needs
 
-returns-2 : tie.Need-returns-2
+returns-3 : tie.Need-returns-3
 unfolding slotAt withSlot
-returns-2 c = by-draining (c .before .before .before .before .before .before .before .before .before .before .before .before .args .slot) (c .before .before .before .before .before .before .before .before .before .before .before .before .args .memory .now) (c .before .before .before .before .before .before .before .before .before .before .before .before .args .buffer .now) _ (c .before .before .before .before .before .before .before .before .before .new .ensures .1 ∙ new-table _ (sym (c .before .before .before .before .before .before .before .before .before .new .ensures .0) ∙ c .before .before .before .before .before .before .before .if1 .left)) _ _ _ _ (c .before .before .before .before .drain .ensures .0) (c .before .before .before .before .drain .ensures .1 .0) (c .before .before .before .before .drain .ensures .1 .1)
+returns-3 c = by-draining (c .before .before .before .before .before .before .before .before .before .before .before .before .before .before .before .before .args .slot) (c .before .before .before .before .before .before .before .before .before .before .before .before .before .before .before .before .args .memory .now) (c .before .before .before .before .before .before .before .before .before .before .before .before .before .before .before .before .args .buffer .now) _ _ (c .before .before .before .before .before .before .before .before .before .before .before .before .before .new .ensures .1 ∙ new-table _ (sym (c .before .before .before .before .before .before .before .before .before .before .before .before .before .new .ensures .0) ∙ c .before .before .before .before .before .before .before .before .before .before .before .if1 .left)) (recount-accepted _ (c .before .before .before .before .before .before .before .before .before .recount .ensures) (c .before .before .before .before .before .before .before .if2 .left) .1) _ _ _ _ (c .before .before .before .before .drain .ensures .0) (c .before .before .before .before .drain .ensures .1 .0) (c .before .before .before .before .drain .ensures .1 .1)
 
 pub drain-slot-spec : {M : Type 1} → statement M
 drain-slot-spec =
@@ -40,7 +54,10 @@ drain-slot-spec =
     refused-answer-requires
     returns
     element-set-from-slot
+    recount-requires
+    refused-answer-requires-2
+    returns-2
     drain-requires
     element-copy-out-slot
     same-length
-    returns-2)
+    returns-3)

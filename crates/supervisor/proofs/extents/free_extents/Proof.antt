@@ -11,7 +11,7 @@ use native.Mathlib.Omega.{arith}
 use borrow.Author.Tests.{eq-eqb, ne-eqb}
 use Rattle.supervisor.specs.ExtentLaws.{extent-few}
 use Rattle.supervisor.specs.Extents.{extentBetween, withoutSlotsBelow}
-use Rattle.supervisor.specs.SoundLaws.{table-fact}
+use Rattle.supervisor.specs.SoundLaws.{slots-fact}
 use Rattle.supervisor.specs.Table.{slotAt}
 use Rattle.supervisor.specs.declared.extents.ExtentList.{ExtentList}
 use Rattle.supervisor.proofs.ExtentListLaws.{below-taken, below-skipped, below-room}
@@ -55,7 +55,7 @@ unfolding slotAt
 each-without-requires c κs =
     let t = c .before .before .before .before .before .before .before .before .args .t1 in
     let here = c .before .before .before .before .before .loop in
-    (here .inv .1, below-room t (table-fact t (c .before .before .before .before .before .before .before .before .pre)) (here .k) _ (c .before .before .before .before .loop-test .taken) (here .inv .2) (ap not (ne-eqb _ _ (c .if1 .taken))))
+    (here .inv .1, below-room t (slots-fact t (c .before .before .before .before .before .before .before .before .pre)) (here .k) _ (c .before .before .before .before .loop-test .taken) (here .inv .2) (ap not (ne-eqb _ _ (c .if1 .taken))))
 
 add-k : tie.Need-add-k Inv-loop μ-loop
 add-k c = omega arith

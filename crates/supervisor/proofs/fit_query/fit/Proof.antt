@@ -7,6 +7,7 @@ use Rattle.supervisor.specs.Calls.{fitAnswer}
 use Rattle.supervisor.specs.ConditionLaws.{table-accepted, table-refused}
 use Rattle.supervisor.specs.Extents.{emptyExtent, extentSize}
 use Rattle.supervisor.specs.FitQuery.{bestOf, bestFit}
+use Rattle.supervisor.specs.SoundLaws.{slots-test, table-fact}
 use Rattle.supervisor.specs.FitTheorem.{fit-unsound, fit-other-size, fit-none, fit-best, fit-start-few}
 use Rattle.supervisor.specs.declared.extents.Extent.{Extent}
 use Rattle.supervisor.specs.declared.fit_query.FitAnswer.{FitAnswer}
@@ -39,7 +40,8 @@ returns-2 c =
     c .refused2 .ensures ∙ sym (fit-other-size (a .table) (a .size) sound (sym (c .before .before .is-size-in-range .ensures) ∙ not-true _ (c .before .if2 .taken)))
 
 free-extents-requires : tie.Need-free-extents-requires
-free-extents-requires c κs = table-accepted (c .before .before .before .before .args .table) (c .before .before .before .table-refusal .ensures) (c .before .before .if1 .left)
+free-extents-requires c κs =
+    slots-test (c .before .before .before .before .args .table) (table-fact (c .before .before .before .before .args .table) (table-accepted (c .before .before .before .before .args .table) (c .before .before .before .table-refusal .ensures) (c .before .before .if1 .left)) .slots)
 
 best-of-requires : tie.Need-best-of-requires
 best-of-requires c κs = search needs

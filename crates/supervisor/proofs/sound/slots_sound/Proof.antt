@@ -1,68 +1,39 @@
--- `supervisor::sound::slots_sound`: a loop over `allBelow` (AllBelowLaws.antt).
-use Prim.Native.Nat.{ℕ, _≤_, _-_}
-use mathlib.Core.Bool.{Bool}
-use mathlib.Core.Path.{_≡_}
-use native.Mathlib.Omega.{arith}
-use Rattle.supervisor.specs.Table.{slotAt}
-use Rattle.supervisor.specs.Sound.{slotSound}
-use Rattle.common.specs.Tests.{allBelow}
-use Rattle.supervisor.specs.declared.table.Table.{Table}
-use Rattle.supervisor.proofs.AllBelowLaws.{all-none, all-more, all-done}
+-- `supervisor::sound::slots_sound`: that there are eight slots is known of the array.
+use mathlib.Core.Path.{_≡_, sym, _∙_}
+use lib.ListN.{length, length-map}
+use Rattle.common.specs.Ranges.{isOneTo}
+use Rattle.common.specs.Tests.{andAll}
+use Rattle.supervisor.specs.Sound.{slotsSound}
+use Rattle.common.specs.TestLaws.{and-true}
 use borrow.Author.Needs.{needs}
 use Rattle.supervisor.proofs.sound.slots_sound.Statement.{statement}
 use Rattle.supervisor.proofs.sound.slots_sound.Tie as tie
 
-abbrev test : Table → ℕ → Bool
-test table k = slotSound (table .size) (slotAt table k)
+cast-is-one-to : tie.Need-cast-is-one-to
+cast-is-one-to c = search needs
 
-abbrev Inv-loop : tie.InvT-loop
-Inv-loop table ok₀ k₀ ok k = (k ≤ 8) × (ok ≡ allBelow k (test table))
+is-one-to-requires : tie.Need-is-one-to-requires
+is-one-to-requires c κs = search needs
 
-abbrev μ-loop : tie.MeasureT-loop
-μ-loop table ok₀ k₀ ok k = 8 - k
+each-slot-sound-requires : tie.Need-each-slot-sound-requires
+each-slot-sound-requires c κs = search needs
 
-loop-holds : tie.Need-loop-holds Inv-loop μ-loop
-loop-holds c = (omega arith, all-none (test (c .args .t1)))
+slots-apart-requires : tie.Need-slots-apart-requires
+slots-apart-requires c κs = search needs
 
-mul-s : tie.Need-mul-s Inv-loop μ-loop
-mul-s c = search needs
-
-element-copy-out-s : tie.Need-element-copy-out-s Inv-loop μ-loop
-element-copy-out-s c = search needs
-
-slot-sound-requires : tie.Need-slot-sound-requires Inv-loop μ-loop
-slot-sound-requires c κs = search needs
-
-add-k : tie.Need-add-k Inv-loop μ-loop
-add-k c = omega arith
-
-loop-less : tie.Need-loop-less Inv-loop μ-loop
-loop-less c = omega arith
-
-loop-again : tie.Need-loop-again Inv-loop μ-loop
-unfolding slotAt
-loop-again c =
-    let at = c .before .before .before .before .args in
-    let here = c .before .before .before .loop in
-    (omega arith, all-more (test (at .t1)) (here .k) (here .inv .1) (c .slot-sound .ensures))
-
-returns : tie.Need-returns Inv-loop μ-loop
+returns : tie.Need-returns
+unfolding slotsSound andAll
 returns c =
-    let at = c .before .before .args in
-    let here = c .before .loop in
-    all-done (test (at .t1)) 8 (here .k) (here .inv .1) (here .inv .0) (c .loop-test .left)
+    let start = c .before .before .before .before .args in
+    let e : length (start .table .slots) ≡ 8 = sym (length-map (start .table .slots) _) ∙ c .before .before .before .before .good .0 .1 .1 .1 .1 .1 .0 .1 .0 .1 in
+    rw (e, and-true (isOneTo (start .table .size) 65536), c .slots-apart .ensures, c .before .each-slot-sound .ensures, c .before .before .is-one-to .ensures)
 
 pub slots-sound-spec : {M : Type 1} → statement M
 slots-sound-spec =
     tie.close
     (tie.spec
-    Inv-loop
-    μ-loop
-    loop-holds
-    mul-s
-    element-copy-out-s
-    slot-sound-requires
-    add-k
-    loop-less
-    loop-again
+    cast-is-one-to
+    is-one-to-requires
+    each-slot-sound-requires
+    slots-apart-requires
     returns)

@@ -1,39 +1,24 @@
--- `supervisor::sound::table_sound`: that there are eight slots is known of the array.
-use mathlib.Core.Path.{_≡_, sym, _∙_}
-use lib.ListN.{length, length-map}
-use Rattle.common.specs.Ranges.{isOneTo}
-use Rattle.common.specs.Tests.{andAll}
+-- `supervisor::sound::table_sound`: the free bytes are looked at where the slots are sound.
+use mathlib.Core.Path.{sym, _∙_}
+use borrow.Author.Tests.{not-false, not-true}
 use Rattle.supervisor.specs.Sound.{tableSound}
-use Rattle.common.specs.TestLaws.{and-true}
 use borrow.Author.Needs.{needs}
 use Rattle.supervisor.proofs.sound.table_sound.Statement.{statement}
 use Rattle.supervisor.proofs.sound.table_sound.Tie as tie
 
-cast-is-one-to : tie.Need-cast-is-one-to
-cast-is-one-to c = search needs
-
-is-one-to-requires : tie.Need-is-one-to-requires
-is-one-to-requires c κs = search needs
-
 slots-sound-requires : tie.Need-slots-sound-requires
 slots-sound-requires c κs = search needs
 
-slots-apart-requires : tie.Need-slots-apart-requires
-slots-apart-requires c κs = search needs
-
 returns : tie.Need-returns
-unfolding tableSound andAll
-returns c =
-    let start = c .before .before .before .before .args in
-    let e : length (start .table .slots) ≡ 8 = sym (length-map (start .table .slots) _) ∙ c .before .before .before .before .good .0 .1 .1 .1 .0 .1 .0 .1 in
-    rw (e, and-true (isOneTo (start .table .size) 65536), c .slots-apart .ensures, c .before .slots-sound .ensures, c .before .before .is-one-to .ensures)
+unfolding tableSound
+returns c = rw (← c .before .slots-sound .ensures, not-true (c .before .slots-sound .result) (c .if1 .taken))
+
+is-counted-requires : tie.Need-is-counted-requires
+is-counted-requires c κs = sym (c .before .slots-sound .ensures) ∙ not-false (c .before .slots-sound .result) (c .if1 .left)
+
+returns-2 : tie.Need-returns-2
+unfolding tableSound
+returns-2 c = rw (← c .before .before .slots-sound .ensures, not-false (c .before .before .slots-sound .result) (c .before .if1 .left)) (c .is-counted .ensures)
 
 pub table-sound-spec : {M : Type 1} → statement M
-table-sound-spec =
-    tie.close
-    (tie.spec
-    cast-is-one-to
-    is-one-to-requires
-    slots-sound-requires
-    slots-apart-requires
-    returns)
+table-sound-spec = tie.close (tie.spec slots-sound-requires returns is-counted-requires returns-2)

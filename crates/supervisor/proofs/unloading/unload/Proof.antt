@@ -1,10 +1,12 @@
 -- `supervisor::unloading::unload`: an accepted call names one of the eight slots (ConditionLaws.antt).
+use mathlib.Core.Path.{sym, _∙_}
 use native.Mathlib.Omega.{arith}
 use Rattle.supervisor.specs.Calls.{changeConditions, refusal}
 use Rattle.supervisor.specs.Calls as calls
+use Rattle.supervisor.specs.ChangeLaws.{change-slots}
 use Rattle.supervisor.specs.ConditionLaws.{refusal-ready}
 use Rattle.supervisor.specs.Unloading.{unloadPatch}
-use Rattle.supervisor.specs.OutcomeLaws.{refused-outcome, accepted-outcome}
+use Rattle.supervisor.specs.OutcomeLaws.{refused-outcome, accepted-outcome, counted-patch}
 use Rattle.supervisor.specs.CallDefinitions.{patch-definitions}
 use borrow.Author.Needs.{needs}
 use Rattle.supervisor.proofs.unloading.unload.Statement.{statement}
@@ -48,13 +50,19 @@ element-set-from-empty : tie.Need-element-set-from-empty
 element-set-from-empty c =
     refusal-ready _ (c .before .before .before .before .before .before .before .before .before .before .before .before .before .before .before .args .slot) (c .before .before .before .before .before .before .before .before .before .before .before .before .system-loaded-slot-refusal .ensures) (c .before .before .before .before .before .before .before .before .before .before .before .if1 .left) .holds .slot
 
+count-free-requires : tie.Need-count-free-requires
+unfolding patch-definitions refusal changeConditions unloadPatch
+count-free-requires c κs =
+    let ready = refusal-ready _ (c .before .before .before .before .before .before .before .before .before .before .before .before .before .before .before .args .slot) (c .before .before .before .before .before .before .before .before .before .before .before .before .system-loaded-slot-refusal .ensures) (c .before .before .before .before .before .before .before .before .before .before .before .if1 .left) in
+    rw (c .empty .ensures) (change-slots _ (ready .system) (c .before .before .before .before .before .before .before .before .before .before .before .before .before .before .before .args .slot) calls.unload (sym (c .before .before .before .before .before .before .before .before .before .before .before .before .system-loaded-slot-refusal .ensures) ∙ c .before .before .before .before .before .before .before .before .before .before .before .if1 .left))
+
 same-length-2 : tie.Need-same-length-2
 same-length-2 c = search needs
 
 returns-2 : tie.Need-returns-2
 unfolding patch-definitions refusal changeConditions unloadPatch
 returns-2 c =
-    accepted-outcome (calls.change (c .before .before .before .before .before .before .before .before .before .before .before .before .before .before .before .args .slot) calls.unload) _ _ _ (c .before .before .before .before .before .before .before .before .before .before .before .before .system-loaded-slot-refusal .ensures) (c .before .before .before .before .before .before .before .before .before .before .before .if1 .left) (rw (c .empty .ensures, c .before .before .before .fill .ensures, c .before .before .before .before .size .ensures))
+    accepted-outcome (calls.change (c .before .before .before .before .before .before .before .before .before .before .before .before .before .before .before .before .args .slot) calls.unload) _ _ _ (c .before .before .before .before .before .before .before .before .before .before .before .before .before .system-loaded-slot-refusal .ensures) (c .before .before .before .before .before .before .before .before .before .before .before .before .if1 .left) (counted-patch _ _ _ _ (c .count-free .ensures) (rw (c .before .empty .ensures, c .before .before .before .before .fill .ensures, c .before .before .before .before .before .size .ensures)))
 
 pub unload-spec : {M : Type 1} → statement M
 unload-spec =
@@ -71,5 +79,6 @@ unload-spec =
     empty-requires
     mul-empty
     element-set-from-empty
+    count-free-requires
     same-length-2
     returns-2)
