@@ -13,13 +13,14 @@ use Rattle.common.specs.declared.places.Location.{Location}
 use Rattle.slices.specs.SliceLaws.{copied-front}
 use Rattle.slices.specs.Slices.{copied}
 use Rattle.supervisor.specs.ChangeLaws.{drain-accepted, load-far}
-use Rattle.supervisor.specs.Calls.{Call, change, load, drain, report, Outcome, outcome, outcomeOf, refusal, afterCall, drainedCount, drainedBuffer, queryRefusal, reportOf, backlogOutcome, backlogOf, fitOf}
-use Rattle.supervisor.specs.ConditionLaws.{HoldsPattern}
+use Rattle.table.specs.Queries.{report, queryRefusal, reportOf, backlogOutcome, backlogOf, fitOf}
+use Rattle.supervisor.specs.Calls.{Call, change, load, drain, Outcome, outcome, outcomeOf, refusal, afterCall, drainedCount, drainedBuffer}
+use Rattle.table.specs.TableConditionLaws.{HoldsPattern}
 use Rattle.supervisor.specs.System.{System, system, slotOf}
-use Rattle.supervisor.specs.Table.{newRefusal, newTable}
-use Rattle.supervisor.specs.declared.fit_query.FitAnswer.{FitAnswer}
-use Rattle.supervisor.specs.declared.reported.Report.{Report}
-use Rattle.supervisor.specs.declared.table.Table.{Table}
+use Rattle.table.specs.Table.{newRefusal, newTable}
+use Rattle.table.specs.declared.fit_query.FitAnswer.{FitAnswer}
+use Rattle.table.specs.declared.reported.Report.{Report}
+use Rattle.table.specs.declared.table.Table.{Table}
 use Rattle.host.specs.HostCalls.{answerOf, lentSystem, tableBytesAfter, bufferOutcome, hostNew, hostBuffers, hostOutcome, hostAfterCall, hostOutcomeOf, hostDrainedBuffer, reportBytes, reportLength, hostReportRefusal, hostReport, bufferOutcomeOf, hostBacklog, answerOfFit, hostFit}
 use Rattle.host.specs.TableEncoding.{tableFromBytes, tableLength}
 use Rattle.common.specs.ConditionDefinitions.{condition-definitions}

@@ -8,12 +8,12 @@ use borrow.Author.Tests.{eq-eqb, ne-eqb}
 use lib.ListN.{length}
 use Rattle.common.specs.ConditionDefinitions.{condition-definitions}
 use Rattle.common.specs.Refusals.{refusalBy}
-use Rattle.supervisor.specs.Conditions.{tableConditions}
-use Rattle.supervisor.specs.Recounting.{answer, recountOf}
-use Rattle.supervisor.specs.Sound.{tableSound}
-use Rattle.supervisor.specs.SoundLaws.{counted-same, table-fact}
-use Rattle.supervisor.specs.declared.table.Answer.{Answer}
-use Rattle.supervisor.specs.declared.table.Table.{Table}
+use Rattle.table.specs.TableConditions.{tableConditions}
+use Rattle.table.specs.Recounting.{answer, recountOf}
+use Rattle.table.specs.Sound.{tableSound}
+use Rattle.table.specs.SoundLaws.{counted-same, table-fact}
+use Rattle.table.specs.declared.table.Answer.{Answer}
+use Rattle.table.specs.declared.table.Table.{Table}
 use Rattle.host.specs.HostCalls.{bufferOutcome, answerOf}
 use Rattle.host.specs.TableEncoding.{tableLength, tableBytes, tableFromBytes}
 use Rattle.host.specs.Upgrading.{uncountedTableLength, uncountedTableFromBytes, heldTable, heldTableSound, upgradeOf, hostUpgrade}

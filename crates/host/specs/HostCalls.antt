@@ -7,12 +7,13 @@ use lib.Dec.{eqb, ltb}
 use lib.ListN.{length, drop}
 use Rattle.common.specs.Choice.{if_then_else_}
 use Rattle.common.specs.Refusals.{_gives_, refusalBy}
-use Rattle.supervisor.specs.Calls.{Call, report, refusal, afterCall, drainedBuffer, queryRefusal, reportOf, BacklogOutcome, backlogOf, fitOf}
+use Rattle.table.specs.Queries.{report, queryRefusal, reportOf, BacklogOutcome, backlogOf, fitOf}
+use Rattle.supervisor.specs.Calls.{Call, refusal, afterCall, drainedBuffer}
 use Rattle.supervisor.specs.System.{System, system}
-use Rattle.supervisor.specs.Table.{newRefusal, newTable}
-use Rattle.supervisor.specs.declared.fit_query.FitAnswer.{FitAnswer}
-use Rattle.supervisor.specs.declared.reported.Report.{Report}
-use Rattle.supervisor.specs.declared.table.Table.{Table}
+use Rattle.table.specs.Table.{newRefusal, newTable}
+use Rattle.table.specs.declared.fit_query.FitAnswer.{FitAnswer}
+use Rattle.table.specs.declared.reported.Report.{Report}
+use Rattle.table.specs.declared.table.Table.{Table}
 use Rattle.slices.specs.Numbers.{u16Bytes}
 use Rattle.slices.specs.Slices.{concat}
 use Rattle.host.specs.TableEncoding.{tableFromBytes, tableBytes, tableLength}

@@ -14,13 +14,13 @@ use Rattle.cpu.specs.MachineLaws.{times-shaped}
 use Rattle.supervisor.specs.Calls.{Change, load, unload, feed, drain, Call, change, run, query, refusal, patchOf, countedAfter, afterAccepted, afterCall}
 use Rattle.supervisor.specs.Events.{Event, call, write, afterEvent, afterEvents}
 use Rattle.supervisor.specs.System.{System, system, slotOf, patched, machineIn}
-use Rattle.supervisor.specs.Table.{noSlot, slotAt, withSlot}
+use Rattle.table.specs.Table.{noSlot, slotAt, withSlot}
 use Rattle.supervisor.specs.Running.{afterQuantum, slotQuantum, slotQuanta, afterRun}
-use Rattle.supervisor.specs.Sound.{tableSound}
+use Rattle.table.specs.Sound.{tableSound}
 use Rattle.supervisor.specs.IsolationTheorem.{isolation}
 use Rattle.supervisor.specs.OutcomeLaws.{query-leaves}
-use Rattle.supervisor.specs.declared.table.Slot.{Slot}
-use Rattle.supervisor.specs.declared.table.Table.{Table}
+use Rattle.table.specs.declared.table.Slot.{Slot}
+use Rattle.table.specs.declared.table.Table.{Table}
 use Rattle.host.specs.HostCalls.{tableBytesAfter, HostBuffers, systemOf, hostAfterCall}
 use Rattle.host.specs.HostIsolation.{hostAfterEvent, hostAfterEvents, HostIsolation}
 use Rattle.host.specs.TableEncoding.{tableFromBytes, tableBytes, tableLength}

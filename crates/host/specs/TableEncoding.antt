@@ -15,9 +15,9 @@ use Prim.Native.Nat.{ℕ, _+_, _*_}
 use lib.ListN.{getD, drop}
 use Rattle.slices.specs.Numbers.{u16Bytes, u32Bytes, u16At, u32At}
 use Rattle.slices.specs.Slices.{partOf, concat, tabulate}
-use Rattle.supervisor.specs.declared.table.Partition.{Partition}
-use Rattle.supervisor.specs.declared.table.Slot.{Slot}
-use Rattle.supervisor.specs.declared.table.Table.{Table}
+use Rattle.table.specs.declared.table.Partition.{Partition}
+use Rattle.table.specs.declared.table.Slot.{Slot}
+use Rattle.table.specs.declared.table.Table.{Table}
 use Rattle.encoding.specs.StateEncoding.{stateLength, stateBytes, stateFromBytes}
 
 -- ---- how many bytes a partition, a slot and a table have, and where the slots stand

@@ -11,10 +11,10 @@ use Rattle.slices.specs.Numbers.{u32Bytes, u32At}
 use Rattle.slices.specs.NumberLaws.{u16-decoded, u32-decoded, u16-encoded, u32-encoded}
 use Rattle.slices.specs.PieceLaws.{part-tabulated, parts-concat}
 use Rattle.slices.specs.Slices.{AllBytes, partOf, concat, tabulate}
-use Rattle.supervisor.specs.FreeBytes.{counted}
-use Rattle.supervisor.specs.declared.table.Partition.{Partition}
-use Rattle.supervisor.specs.declared.table.Slot.{Slot}
-use Rattle.supervisor.specs.declared.table.Table.{Table}
+use Rattle.table.specs.FreeBytes.{counted}
+use Rattle.table.specs.declared.table.Partition.{Partition}
+use Rattle.table.specs.declared.table.Slot.{Slot}
+use Rattle.table.specs.declared.table.Table.{Table}
 use Rattle.encoding.specs.StateEncoding.{stateLength, stateBytes, stateFromBytes}
 use Rattle.encoding.specs.StateRoundTripLaws.{StateShaped, state-shaped, state-length, state-decoded, state-encoded}
 use Rattle.host.specs.TableEncoding.{partitionLength, slotLength, slotsOffset, tableLength, partitionBytes, slotBytes, headBytes, tableBytes, partitionFromBytes, slotFromBytes, slotsFromBytes, tableFromBytes}

@@ -13,14 +13,14 @@ use Rattle.common.specs.Refusals.{_gives_, unless}
 use Rattle.common.specs.TestLaws.{and-fact}
 use Rattle.slices.specs.Slices.{AllBytes, partOf}
 use Rattle.cpu.specs.Result.{lastStatus}
-use Rattle.supervisor.specs.FreeBytes.{counted}
-use Rattle.supervisor.specs.Recounting.{answer}
-use Rattle.supervisor.specs.declared.table.Answer.{Answer}
-use Rattle.supervisor.specs.Sound.{slotsSound, tableSound}
-use Rattle.supervisor.specs.SoundLaws.{slots-test, table-fact, counted-same, counted-test}
+use Rattle.table.specs.FreeBytes.{counted}
+use Rattle.table.specs.Recounting.{answer}
+use Rattle.table.specs.declared.table.Answer.{Answer}
+use Rattle.table.specs.Sound.{slotsSound, tableSound}
+use Rattle.table.specs.SoundLaws.{slots-test, table-fact, counted-same, counted-test}
 use Rattle.supervisor.specs.System.{machineIn}
-use Rattle.supervisor.specs.Table.{slotAt}
-use Rattle.supervisor.specs.declared.table.Table.{Table}
+use Rattle.table.specs.Table.{slotAt}
+use Rattle.table.specs.declared.table.Table.{Table}
 use Rattle.host.specs.HostCalls.{BufferOutcome, bufferOutcome, answerOf}
 use Rattle.host.specs.TableEncoding.{slotLength, tableLength, tableBytes, tableFromBytes}
 use Rattle.host.specs.TableRoundTripLaws.{TableShaped, counted-shaped, slots-shaped, table-shaped, table-length, table-decoded, table-encoded}

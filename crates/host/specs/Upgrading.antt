@@ -10,13 +10,13 @@ use lib.ListN.{length}
 use Rattle.common.specs.Choice.{if_then_else_}
 use Rattle.common.specs.Refusals.{_gives_, unless}
 use Rattle.slices.specs.Numbers.{u32At}
-use Rattle.supervisor.specs.FreeBytes.{counted}
-use Rattle.supervisor.specs.Recounting.{answer}
-use Rattle.supervisor.specs.Sound.{slotsSound, tableSound}
+use Rattle.table.specs.FreeBytes.{counted}
+use Rattle.table.specs.Recounting.{answer}
+use Rattle.table.specs.Sound.{slotsSound, tableSound}
 use Rattle.supervisor.specs.System.{machineIn}
-use Rattle.supervisor.specs.Table.{slotAt}
-use Rattle.supervisor.specs.declared.table.Answer.{Answer}
-use Rattle.supervisor.specs.declared.table.Table.{Table}
+use Rattle.table.specs.Table.{slotAt}
+use Rattle.table.specs.declared.table.Answer.{Answer}
+use Rattle.table.specs.declared.table.Table.{Table}
 use Rattle.host.specs.HostCalls.{BufferOutcome, bufferOutcome, answerOf}
 use Rattle.host.specs.TableEncoding.{tableLength, tableBytes, slotsFromBytes, tableFromBytes}
 

@@ -13,9 +13,9 @@ use slices::put_u16;
 use slices::put_u32;
 use slices::u16_at;
 use slices::u32_at;
-use supervisor::Partition;
-use supervisor::Slot;
-use supervisor::Table;
+use table::Partition;
+use table::Slot;
+use table::Table;
 
 // How many bytes a partition and a slot have.
 const PARTITION_LENGTH: usize = 11;

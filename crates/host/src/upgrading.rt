@@ -8,8 +8,8 @@ use crate::table_encoding::decode_slots;
 use crate::table_encoding::decode_table;
 use crate::table_encoding::put_table;
 use slices::u32_at;
-use supervisor::Answer;
-use supervisor::Table;
+use table::Answer;
+use table::Table;
 
 // How many bytes a table had before it kept its free bytes, and where its slots stood.
 const UNCOUNTED_TABLE_LENGTH: usize = 364;
@@ -34,14 +34,14 @@ fn upgrade_table(old: &[u8]) -> Answer
     ensures { λ r. ⌜ r ≡ upgradeOf (now (old .entry)) ⌝ }
 {
     if old.len() == UNCOUNTED_TABLE_LENGTH {
-        return supervisor::recount(decode_uncounted(old));
+        return table::recount(decode_uncounted(old));
     }
     let table = decode_table(old);
     if old.len() != TABLE_LENGTH {
         return Answer { refusal: 1, table };
     }
     Answer {
-        refusal: supervisor::table_refusal(table),
+        refusal: table::table_refusal(table),
         table,
     }
 }

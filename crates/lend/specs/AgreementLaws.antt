@@ -14,11 +14,11 @@ use Rattle.common.specs.Ranges.{isOneTo}
 use Rattle.slices.specs.SliceLaws.{copied-none}
 use Rattle.supervisor.specs.Calls.{change, drain, refusal, outcome, outcomeOf, drainedCount, drainedBuffer}
 use Rattle.supervisor.specs.System.{System, system}
-use Rattle.supervisor.specs.SoundLaws.{table-fact}
-use Rattle.supervisor.specs.Table.{slotAt, withSlot}
-use Rattle.supervisor.specs.Sound.{slotSound, tableSound}
-use Rattle.supervisor.specs.declared.table.Slot.{Slot}
-use Rattle.supervisor.specs.declared.table.Table.{Table}
+use Rattle.table.specs.SoundLaws.{table-fact}
+use Rattle.table.specs.Table.{slotAt, withSlot}
+use Rattle.table.specs.Sound.{slotSound, tableSound}
+use Rattle.table.specs.declared.table.Slot.{Slot}
+use Rattle.table.specs.declared.table.Table.{Table}
 use Rattle.lend.specs.Lent.{DrainSlotOutcome, drainSlotRefusal, drainSlotOf}
 use Rattle.supervisor.specs.CallDefinitions.{refusal-definitions, drain-definitions}
 

@@ -15,14 +15,14 @@ use Rattle.common.specs.Tests.{andAll, allBelow}
 use Rattle.supervisor.specs.ChangeLaws.{empty-sound}
 use Rattle.supervisor.specs.Calls.{Outcome, change, drain, refusal, outcome, outcomeOf, drainedCount, drainedBuffer}
 use Rattle.supervisor.specs.System.{System, system, patched}
-use Rattle.supervisor.specs.Table.{emptySlot, emptyTable, newRefusal, newTable, partitionEnd, slotAt, withSlot, slotWithState}
+use Rattle.table.specs.Table.{emptySlot, emptyTable, newRefusal, newTable, partitionEnd, slotAt, withSlot, slotWithState}
 use Rattle.supervisor.specs.Draining.{drainedState, drainPatch, writtenBytes}
-use Rattle.supervisor.specs.FreeBytes.{counted}
-use Rattle.supervisor.specs.Sound.{slotSound, areApart, isClearOfOthers, slotsSound, tableSound}
-use Rattle.supervisor.specs.SoundLaws.{counted-test}
-use Rattle.supervisor.specs.declared.table.Partition.{Partition}
-use Rattle.supervisor.specs.declared.table.Slot.{Slot}
-use Rattle.supervisor.specs.declared.table.Table.{Table}
+use Rattle.table.specs.FreeBytes.{counted}
+use Rattle.table.specs.Sound.{slotSound, areApart, isClearOfOthers, slotsSound, tableSound}
+use Rattle.table.specs.SoundLaws.{counted-test}
+use Rattle.table.specs.declared.table.Partition.{Partition}
+use Rattle.table.specs.declared.table.Slot.{Slot}
+use Rattle.table.specs.declared.table.Table.{Table}
 use Rattle.lend.specs.Lent.{drainLentOutcome, drainSlotRefusal, drainSlotOf}
 use Rattle.supervisor.specs.CallDefinitions.{refusal-definitions}
 use Rattle.common.specs.ConditionDefinitions.{condition-definitions}

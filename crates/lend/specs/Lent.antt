@@ -9,9 +9,9 @@ use Rattle.common.specs.Choice.{if_then_else_}
 use Rattle.common.specs.Refusals.{_gives_, refusalBy}
 use Rattle.common.specs.Ranges.{isOneTo}
 use Rattle.supervisor.specs.Draining.{drainConditions, drainedState, writtenBytes}
-use Rattle.supervisor.specs.Table.{slotWithState, isEmpty}
-use Rattle.supervisor.specs.Sound.{slotSound}
-use Rattle.supervisor.specs.declared.table.Slot.{Slot}
+use Rattle.table.specs.Table.{slotWithState, isEmpty}
+use Rattle.table.specs.Sound.{slotSound}
+use Rattle.table.specs.declared.table.Slot.{Slot}
 use Rattle.lend.specs.declared.lent.SlotAnswer.{SlotAnswer}
 use Rattle.lend.specs.declared.lent.LentAnswer.{LentAnswer}
 

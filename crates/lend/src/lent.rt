@@ -1,8 +1,8 @@
 // Draining over one slot that is lent by reference (document 01, "Floor and bays": collecting over one station's record).
 ghost use mathlib.Core.Path.{_≡_};
 ghost use Rattle.lend.specs.Lent.{drainSlotOutcome, drainSlotOf, drainLentOutcome};
-use supervisor::Slot;
-use supervisor::Table;
+use table::Slot;
+use table::Table;
 
 // The refusal, 0 for none, and how many bytes were drained.
 pub struct LentAnswer {
@@ -34,7 +34,7 @@ pub fn drain_slot(slot: Slot, memory: &[u8], buffer: &mut [u8]) -> SlotAnswer
     }
     let mut alone = fresh.table;
     alone.slots[0] = slot;
-    let counted = supervisor::recount(alone);
+    let counted = table::recount(alone);
     if counted.refusal != 0 {
         return refused_answer(counted.refusal, slot);
     }

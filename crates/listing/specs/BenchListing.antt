@@ -6,9 +6,10 @@ use lib.Dec.{eqb, ltb}
 use lib.ListN.{length, drop}
 use Rattle.common.specs.Refusals.{_gives_, unless, refusalBy}
 use Rattle.common.specs.Choice.{if_then_else_}
-use Rattle.supervisor.specs.Calls.{Call, change, load, refusal, afterCall, reportOf}
+use Rattle.table.specs.Queries.{reportOf}
+use Rattle.supervisor.specs.Calls.{Call, change, load, refusal, afterCall}
 use Rattle.supervisor.specs.System.{System, system, slotOf}
-use Rattle.supervisor.specs.Table.{newTable}
+use Rattle.table.specs.Table.{newTable}
 use Rattle.supervisor.specs.Draining.{writtenBytes}
 use Rattle.listing.specs.UntilStopped.{untilStopped}
 use Rattle.listing.specs.Text.{refusedLine, linesOf}

@@ -3,10 +3,12 @@ use Rattle.common.specs.Repetition.{times}
 use Rattle.cpu.specs.StepDefinitions.{step-definitions}
 use Rattle.loader.specs.Fresh.{freshState, freshBytes, freshMachine}
 use Rattle.pattern.specs.FileDefinitions.{file-definitions}
-use Rattle.supervisor.specs.CallDefinitions.{sound-definitions, refusal-definitions, change-definitions, run-definitions}
-use Rattle.supervisor.specs.Calls.{afterAccepted, afterCall, countedAfter, reportOf}
+use Rattle.table.specs.TableDefinitions.{sound-definitions}
+use Rattle.supervisor.specs.CallDefinitions.{refusal-definitions, change-definitions, run-definitions}
+use Rattle.table.specs.Queries.{reportOf}
+use Rattle.supervisor.specs.Calls.{afterAccepted, afterCall, countedAfter}
 use Rattle.supervisor.specs.Loading.{partitionFor}
-use Rattle.supervisor.specs.Table.{newTable, newRefusal}
+use Rattle.table.specs.Table.{newTable, newRefusal}
 use Rattle.listing.specs.LoneLaws.{loneUntil, loneReport, loneLines}
 use Rattle.listing.specs.TextDefinitions.{text-definitions}
 

@@ -8,9 +8,10 @@ use lib.ListN.{length, drop}
 use Rattle.cpu.specs.Cases as machine
 use Rattle.pattern.specs.Cases as pattern
 use Rattle.pattern.specs.Reader as reader
-use Rattle.supervisor.specs.Calls.{change, load, run, refusal, afterCall, reportOf}
+use Rattle.table.specs.Queries.{reportOf}
+use Rattle.supervisor.specs.Calls.{change, load, run, refusal, afterCall}
 use Rattle.supervisor.specs.System.{System, system, slotOf}
-use Rattle.supervisor.specs.Table.{newTable}
+use Rattle.table.specs.Table.{newTable}
 use Rattle.loader.specs.Fresh.{freshMachine}
 use Rattle.listing.specs.Ascii.{ascii}
 use Rattle.listing.specs.BenchListing.{loadCall, fileRefusal, textOf, memoryAfter, longestText, listingOutcome, listingOf}

@@ -12,22 +12,24 @@ use Rattle.common.specs.Choice.{if_then_else_}
 use Rattle.common.specs.TestLaws.{and-fact}
 use Rattle.loader.specs.Fresh.{freshState}
 use Rattle.slices.specs.SliceLaws.{part-length}
-use Rattle.supervisor.specs.Calls.{load, change, run, drain, report, refusal, patchOf, countedAfter, afterChange, afterAccepted, afterCall, queryRefusal, drainedCount, drainedBuffer, reportOf}
+use Rattle.table.specs.Queries.{report, queryRefusal, reportOf}
+use Rattle.supervisor.specs.Calls.{load, change, run, drain, refusal, patchOf, countedAfter, afterChange, afterAccepted, afterCall, drainedCount, drainedBuffer}
 use Rattle.supervisor.specs.ChangeLaws.{change-sound}
 use Rattle.supervisor.specs.ConditionLaws.{SoundSystem, ReadySlot, loaded-ready}
 use Rattle.supervisor.specs.System.{System, slotOf}
-use Rattle.supervisor.specs.Table.{newTable, newRefusal, isEmpty, slotAt}
+use Rattle.table.specs.Table.{newTable, newRefusal, isEmpty, slotAt}
 use Rattle.supervisor.specs.Draining.{writtenBytes}
 use Rattle.supervisor.specs.Loading.{loadPatch}
 use Rattle.supervisor.specs.Running.{afterRun}
 use Rattle.supervisor.specs.PatchLaws.{slot-inside, patched-slot}
 use Rattle.supervisor.specs.RoundLaws.{DiffersByRunning, rounds-running}
-use Rattle.supervisor.specs.SoundLaws.{loaded-live, table-fact, table-test}
+use Rattle.table.specs.SoundLaws.{loaded-live, table-fact, table-test}
 use Rattle.supervisor.specs.Location.{outputLocation}
 use Rattle.supervisor.specs.IsolationTheorem.{run-accepted}
 use Rattle.listing.specs.BenchListing.{newSystem, loadCall, afterBenchRounds}
 use Rattle.listing.specs.UntilStopped.{untilStopped}
-use Rattle.supervisor.specs.CallDefinitions.{sound-definitions, refusal-definitions}
+use Rattle.table.specs.TableDefinitions.{sound-definitions}
+use Rattle.supervisor.specs.CallDefinitions.{refusal-definitions}
 use Rattle.common.specs.ConditionDefinitions.{condition-definitions}
 
 -- slot 0 is loaded

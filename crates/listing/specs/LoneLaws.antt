@@ -18,19 +18,20 @@ use Rattle.loader.specs.FreshLaws.{fresh-length}
 use Rattle.pattern.specs.Reader.{parametersOf}
 use Rattle.slices.specs.SliceLaws.{copied-inside, part-front}
 use Rattle.slices.specs.Slices.{partOf, copied}
-use Rattle.supervisor.specs.Calls.{run, refusal, patchOf, countedAfter, afterCall, reportOf}
+use Rattle.table.specs.Queries.{reportOf}
+use Rattle.supervisor.specs.Calls.{run, refusal, patchOf, countedAfter, afterCall}
 use Rattle.supervisor.specs.ChangeLaws.{LoadAccepted, load-accepted}
 use Rattle.supervisor.specs.ConditionLaws.{SoundSystem, ReadySlot}
 use Rattle.supervisor.specs.System.{System, slotOf, patched, machineIn}
-use Rattle.supervisor.specs.Table.{slotAt}
+use Rattle.table.specs.Table.{slotAt}
 use Rattle.supervisor.specs.Loading.{partitionFor, loadPatch}
 use Rattle.supervisor.specs.Draining.{writtenBytes}
-use Rattle.supervisor.specs.Reporting.{reportedPsu}
+use Rattle.table.specs.Reporting.{reportedPsu}
 use Rattle.supervisor.specs.PatchLaws.{slotMachine, patched-slot}
 use Rattle.supervisor.specs.RoundLaws.{rounds-running, rounds-machine}
-use Rattle.supervisor.specs.declared.reported.Report.{Report}
-use Rattle.supervisor.specs.declared.table.Partition.{Partition}
-use Rattle.supervisor.specs.declared.table.Slot.{Slot}
+use Rattle.table.specs.declared.reported.Report.{Report}
+use Rattle.table.specs.declared.table.Partition.{Partition}
+use Rattle.table.specs.declared.table.Slot.{Slot}
 use Rattle.listing.specs.BenchListing.{newSystem, loadCall, afterBenchRounds, fileRefusal, linesAfter, textOf}
 use Rattle.listing.specs.UntilStopped.{untilStopped}
 use Rattle.listing.specs.ListingLaws.{slot-loaded, fresh-sound, load-after-accepted, load-ready, round-after-accepted, round-ready, after-bench-rounds-ready, report-accepted}

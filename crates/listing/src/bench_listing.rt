@@ -3,7 +3,7 @@ use crate::text::put_lines;
 use crate::text::put_refused;
 use crate::until_stopped::run_until_stopped;
 use common::Location;
-use supervisor::Table;
+use table::Table;
 ghost use mathlib.Core.Bool.{false};
 ghost use mathlib.Core.List.{_++_};
 ghost use mathlib.Core.Path.{_≡_};
@@ -11,7 +11,7 @@ ghost use Prim.Native.Nat.{_≤_};
 ghost use lib.ListN.{length, drop};
 ghost use Rattle.supervisor.specs.System.{system, slotOf};
 ghost use Rattle.supervisor.specs.ConditionLaws.{SoundSystem};
-ghost use Rattle.supervisor.specs.Table.{isEmpty};
+ghost use Rattle.table.specs.Table.{isEmpty};
 ghost use Rattle.listing.specs.BenchListing.{longestText, listingOutcome, listingOf, linesAfter, textOf, memoryAfter};
 
 // The refusal, 0 for none, and the length of the text.
@@ -38,7 +38,7 @@ fn put_report_and_output(table: Table, memory: &[u8], text: &mut [u8]) -> usize
     ensures { λ r. ⌜ now (text .exit) ≡ linesAfter (system table (now (memory .entry))) ++ drop r (now (text .entry)) ⌝ }
     ensures { λ r. ⌜ r ≤ longestText ⌝ }
 {
-    let report = supervisor::report(table, 0);
+    let report = table::report(table, 0);
     let mut output = [0u8; 4096];
     let drained = supervisor::drain(table, memory, 0, &mut output);
     put_lines(report, slices::front(&output, drained.count), text)

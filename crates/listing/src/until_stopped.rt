@@ -1,9 +1,9 @@
 // Single rounds until the pattern stops.
-use supervisor::Table;
+use table::Table;
 ghost use mathlib.Core.Path.{_≡_};
 ghost use lib.Dec.{eqb};
 ghost use Rattle.supervisor.specs.System.{system};
-ghost use Rattle.supervisor.specs.Table.{slotAt};
+ghost use Rattle.table.specs.Table.{slotAt};
 ghost use Rattle.listing.specs.UntilStopped.{untilStopped};
 
 fn is_running(table: Table) -> bool

@@ -10,10 +10,10 @@ use cpu::State;
 use slices::rest;
 use slices::u16_at;
 use slices::u32_at;
-use supervisor::Partition;
-use supervisor::Report;
-use supervisor::Slot;
-use supervisor::Table;
+use table::Partition;
+use table::Report;
+use table::Slot;
+use table::Table;
 
 fn same_registers(r: [u8; 7], want: &[u8]) -> bool {
     (r[0] as u16 == u16_at(want, 0))

@@ -3,7 +3,7 @@ ghost use mathlib.Core.Path.{_≡_};
 ghost use Rattle.lend.specs.Lent.{drainSlotOutcome, drainSlotOf};
 use lend::SlotAnswer;
 use lend::drain_lent;
-use supervisor::Slot;
+use table::Slot;
 
 // Lends the slot. A function that lends a struct has a proof by hand, so this one does nothing else.
 pub(crate) fn drain_loan(slot: Slot, memory: &[u8], buffer: &mut [u8]) -> SlotAnswer

@@ -29,8 +29,8 @@ use slices::rest;
 use slices::u16_at;
 use slices::u32_at;
 use std::num::wrapping_add_u64;
-use supervisor::Answer;
-use supervisor::Table;
+use table::Answer;
+use table::Table;
 
 // The table, the table as it was before the last group of pokes, and how much memory is lent.
 struct ScriptState {
@@ -150,7 +150,7 @@ fn backlog_into(script: ScriptState, entry: &[u8], buffer: &mut [u8]) -> EntryRe
         return result_without_call(script, false);
     }
     let table = script.table;
-    let answer = supervisor::backlog(table, &mut buffer[..n]);
+    let answer = table::backlog(table, &mut buffer[..n]);
     let refusal = answer.refusal;
     EntryResult {
         script,
@@ -171,7 +171,7 @@ fn filling_entry(script: ScriptState, memory: &[u8], entry: &[u8]) -> EntryResul
 
 fn report_entry(script: ScriptState, entry: &[u8]) -> EntryResult {
     let table = script.table;
-    let answer = supervisor::report(table, slot(entry));
+    let answer = table::report(table, slot(entry));
     let refusal = answer.refusal;
     let same = (refusal as u16 == wanted(entry)) & same_report(answer, bytes(entry));
     EntryResult {
@@ -183,7 +183,7 @@ fn report_entry(script: ScriptState, entry: &[u8]) -> EntryResult {
 
 fn fit_entry(script: ScriptState, entry: &[u8]) -> EntryResult {
     let table = script.table;
-    let answer = supervisor::fit(table, size(entry));
+    let answer = table::fit(table, size(entry));
     let refusal = answer.refusal;
     let location = answer.location;
     EntryResult {

@@ -11,9 +11,9 @@ use Rattle.supervisor.specs.Calls.{change, drain, refusal, drainedBuffer
 use Rattle.supervisor.specs.ChangeLaws.{drain-accepted}
 use Rattle.supervisor.specs.System.{System, slotOf}
 use Rattle.supervisor.specs.Draining.{writtenBytes}
-use Rattle.supervisor.specs.Table.{partitionEnd}
+use Rattle.table.specs.Table.{partitionEnd}
 use Rattle.supervisor.specs.Location.{outputLocation}
-use Rattle.supervisor.specs.declared.table.Partition.{Partition}
+use Rattle.table.specs.declared.table.Partition.{Partition}
 
 pub drained-buffer : (x : System) (k : ℕ) (buffer : List ℕ) {n : ℕ} → n ≡ refusal (change k (drain (length buffer))) x → n ≡ 0
     → copied buffer 0

@@ -1,7 +1,6 @@
 -- Loading: the conditions in parts, and what an accepted and a refused file say.
 use Prim.Native.Nat.{ℕ, _<_}
 use mathlib.Core.List.{List, _++_}
-use mathlib.Core.Bool.{true}
 use mathlib.Core.Path.{_≡_, sym, ap, _∙_}
 use borrow.Author.Tests.{ne-eqb}
 use Rattle.common.specs.RefusalLaws.{none-holds, refused-by-front, left-to-rest}
@@ -14,20 +13,15 @@ use Rattle.pattern.specs.declared.reader.ReadResult.the-variants.{Accepted, Ref
 use Rattle.pattern.specs.declared.parameters.Parameters.{Parameters}
 use Rattle.supervisor.specs.Calls.{load, change, changeConditions, refusal}
 use Rattle.supervisor.specs.ConditionLaws.{SoundSystem, vacant-numbered, vacant-slot}
-use Rattle.supervisor.specs.Sound.{slotsSound}
-use Rattle.supervisor.specs.System.{System, system}
-use Rattle.supervisor.specs.declared.table.Table.{Table}
-use Rattle.supervisor.specs.Conditions.{systemConditions, emptySlotConditions}
+use Rattle.supervisor.specs.System.{System}
+use Rattle.table.specs.TableConditions.{emptySlotConditions}
+use Rattle.supervisor.specs.Conditions.{systemConditions}
 use Rattle.supervisor.specs.Loading.{fileConditions, locationConditions, partitionFor}
 use Rattle.common.specs.ConditionDefinitions.{condition-definitions}
 
 -- a refused file has a number
 read-some : (s : List ℕ) (n : ℕ) → readOf s ≡ Refused n → n ≡ 0 → ⊥
 read-some s n e none = refused-accepted n (sym e ∙ read-zero s (ap readRefusal e ∙ none))
-
--- a table that is known with its memory has sound slots if that system has
-pub slots-of : {t : Table} {memory : List ℕ} (y : System) → system t memory ≡ y → slotsSound (y .table) ≡ true → slotsSound t ≡ true
-slots-of y e h = ap (λ (z : System). slotsSound (z .table)) e ∙ h
 
 -- ---- the conditions in parts
 

@@ -24,11 +24,11 @@ use Rattle.supervisor.specs.Conditions.{systemConditions}
 use Rattle.supervisor.specs.Running.{machineBytes, afterQuantum, slotQuantum, slotQuanta, afterRun}
 use Rattle.supervisor.specs.PatchLaws.{slot-inside}
 use Rattle.supervisor.specs.RoundLaws.{resting-quantum, quanta-running, rounds-running}
-use Rattle.supervisor.specs.SoundLaws.{table-fact, table-test}
-use Rattle.supervisor.specs.Table.{slotAt, withSlot, slotWithState, partitionEnd}
-use Rattle.supervisor.specs.Sound.{tableSound}
-use Rattle.supervisor.specs.declared.table.Slot.{Slot}
-use Rattle.supervisor.specs.declared.table.Table.{Table}
+use Rattle.table.specs.SoundLaws.{table-fact, table-test}
+use Rattle.table.specs.Table.{slotAt, withSlot, slotWithState, partitionEnd}
+use Rattle.table.specs.Sound.{tableSound}
+use Rattle.table.specs.declared.table.Slot.{Slot}
+use Rattle.table.specs.declared.table.Table.{Table}
 
 written-as-copied : (memory y : List ℕ) (base n : ℕ) → length y ≡ n → base + n ≤ length memory → take base memory ++ (y ++ drop n (drop base memory)) ≡ copied memory base y
 written-as-copied memory y base n e h =

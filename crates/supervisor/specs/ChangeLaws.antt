@@ -25,25 +25,27 @@ use Rattle.pattern.specs.ReaderLaws.{read-zero, read-ranges, input-fits}
 use Rattle.pattern.specs.ParameterLaws.{InRange}
 use Rattle.pattern.specs.declared.reader.ReadResult.the-variants.{Accepted}
 use Rattle.supervisor.specs.Calls.{Change, load, unload, feed, drain, change, changeConditions, refusal, patchOf, countedAfter, afterChange, outcome, outcomeOf}
-use Rattle.supervisor.specs.ConditionLaws.{SoundSystem, HoldsPattern, ReadySlot, file-numbered, location-numbered, vacant-numbered, vacant-slot, ready-parts, refusal-ready}
+use Rattle.table.specs.TableConditionLaws.{HoldsPattern}
+use Rattle.supervisor.specs.ConditionLaws.{SoundSystem, ReadySlot, file-numbered, location-numbered, vacant-numbered, vacant-slot, ready-parts, refusal-ready}
 use Rattle.supervisor.specs.System.{System, system, slotOf, patched}
-use Rattle.supervisor.specs.FreeBytes.{counted}
-use Rattle.supervisor.specs.Conditions.{systemConditions, emptySlotConditions}
+use Rattle.table.specs.FreeBytes.{counted}
+use Rattle.table.specs.TableConditions.{emptySlotConditions}
+use Rattle.supervisor.specs.Conditions.{systemConditions}
 use Rattle.supervisor.specs.Loading.{fileConditions, locationConditions, partitionFor, loadPatch}
 use Rattle.supervisor.specs.Feeding.{feedConditions, fedState, feedPatch}
 use Rattle.supervisor.specs.Draining.{drainConditions, drainedState, drainPatch}
-use Rattle.supervisor.specs.Table.{emptySlot, partitionEnd}
+use Rattle.table.specs.Table.{emptySlot, partitionEnd}
 use Rattle.supervisor.specs.Unloading.{unloadPatch}
 use Rattle.supervisor.specs.Resuming.{resumedStatus}
 use Rattle.supervisor.specs.OutcomeLaws.{refused-outcome}
 use Rattle.supervisor.specs.PatchLaws.{PatchFits, KeepsOthers, patch-keeps, numbers-keep, state-fits, state-put}
-use Rattle.supervisor.specs.SoundLaws.{StateSound, Loaded, slot-test, loaded-live, Apart, apart-behind, clear-fact, slots-test, counted-sound}
+use Rattle.table.specs.SoundLaws.{StateSound, Loaded, slot-test, loaded-live, Apart, apart-behind, clear-fact, slots-test, counted-sound}
 use Rattle.supervisor.specs.Location.{inputLocation}
-use Rattle.supervisor.specs.Sound.{slotSound, slotsSound}
-use Rattle.supervisor.specs.declared.table.Partition.{Partition}
-use Rattle.supervisor.specs.declared.table.Slot.{Slot}
-use Rattle.supervisor.specs.declared.table.Table.{Table}
-use Rattle.supervisor.specs.CallDefinitions.{sound-definitions}
+use Rattle.table.specs.Sound.{slotSound, slotsSound}
+use Rattle.table.specs.declared.table.Partition.{Partition}
+use Rattle.table.specs.declared.table.Slot.{Slot}
+use Rattle.table.specs.declared.table.Table.{Table}
+use Rattle.table.specs.TableDefinitions.{sound-definitions}
 use Rattle.common.specs.ConditionDefinitions.{condition-definitions}
 
 -- ---- load

@@ -8,9 +8,9 @@ use Rattle.slices.specs.Slices.{partOf}
 use Rattle.supervisor.specs.Location.{outputLocation}
 use Rattle.supervisor.specs.Resuming.{resumedStatus}
 use Rattle.supervisor.specs.System.{Patch, patch}
-use Rattle.supervisor.specs.Table.{slotWithState}
+use Rattle.table.specs.Table.{slotWithState}
 use Rattle.cpu.specs.declared.state.State.{State}
-use Rattle.supervisor.specs.declared.table.Slot.{Slot}
+use Rattle.table.specs.declared.table.Slot.{Slot}
 
 -- the buffer is too short for what was written
 unfoldable pub drainConditions : Slot → ℕ → List Condition

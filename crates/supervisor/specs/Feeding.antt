@@ -9,9 +9,9 @@ use Rattle.cpu.specs.State.{withFilled, withRead, withStatus}
 use Rattle.supervisor.specs.Location.{inputLocation}
 use Rattle.supervisor.specs.Resuming.{resumedStatus}
 use Rattle.supervisor.specs.System.{Patch, patch}
-use Rattle.supervisor.specs.Table.{slotWithState}
+use Rattle.table.specs.Table.{slotWithState}
 use Rattle.cpu.specs.declared.state.State.{State}
-use Rattle.supervisor.specs.declared.table.Slot.{Slot}
+use Rattle.table.specs.declared.table.Slot.{Slot}
 
 -- unread input remains; no bytes, or more than the capacity
 unfoldable pub feedConditions : Slot → List ℕ → List Condition

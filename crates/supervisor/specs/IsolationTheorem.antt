@@ -23,16 +23,17 @@ use Rattle.supervisor.specs.ConditionLaws.{SoundSystem}
 use Rattle.supervisor.specs.Events.{Event, call, write, afterEvent, afterEvents, roundsOfCall, roundsOfEvent, roundsOfEvents}
 use Rattle.supervisor.specs.Isolation.{LeftAlone, LeftAloneThroughout, NotWritten, InNoPartitionNorWrittenThroughout, SoundThroughout, RunsAccepted, Isolation}
 use Rattle.supervisor.specs.System.{System, slotOf, machineIn}
-use Rattle.supervisor.specs.Conditions.{tableConditions, systemConditions}
+use Rattle.table.specs.TableConditions.{tableConditions}
+use Rattle.supervisor.specs.Conditions.{systemConditions}
 use Rattle.supervisor.specs.Running.{afterRun}
-use Rattle.supervisor.specs.PartitionByteLaws.{OutsidePartition, outside-partition}
+use Rattle.table.specs.PartitionByteLaws.{OutsidePartition, outside-partition}
 use Rattle.supervisor.specs.PatchLaws.{slotMachine, KeepsOthers}
 use Rattle.supervisor.specs.RoundLaws.{DiffersByRunning, rounds-running, rounds-machine}
-use Rattle.supervisor.specs.SoundLaws.{table-fact, table-test}
-use Rattle.supervisor.specs.Table.{InNoPartition, isEmpty, partitionEnd}
-use Rattle.supervisor.specs.Sound.{tableSound}
-use Rattle.supervisor.specs.declared.table.Partition.{Partition}
-use Rattle.supervisor.specs.declared.table.Slot.{Slot}
+use Rattle.table.specs.SoundLaws.{table-fact, table-test}
+use Rattle.table.specs.Table.{InNoPartition, isEmpty, partitionEnd}
+use Rattle.table.specs.Sound.{tableSound}
+use Rattle.table.specs.declared.table.Partition.{Partition}
+use Rattle.table.specs.declared.table.Slot.{Slot}
 use Rattle.common.specs.ConditionDefinitions.{condition-definitions}
 
 -- slot j goes on as the lone machine for n steps

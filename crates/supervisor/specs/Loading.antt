@@ -6,13 +6,13 @@ use mathlib.Core.List.{List, [], _∷_}
 use Rattle.common.specs.Refusals.{Condition, _gives_}
 use Rattle.loader.specs.Fresh.{fileState, freshBytes}
 use Rattle.pattern.specs.Reader.{parametersOf, readOf, readRefusal}
-use Rattle.supervisor.specs.Sound.{isClearOfOthers}
+use Rattle.table.specs.Sound.{isClearOfOthers}
 use Rattle.supervisor.specs.System.{Patch, patch}
-use Rattle.supervisor.specs.Table.{partitionEnd}
+use Rattle.table.specs.Table.{partitionEnd}
 use Rattle.common.specs.declared.places.Location.{Location}
 use Rattle.pattern.specs.declared.parameters.Parameters.{Parameters}
-use Rattle.supervisor.specs.declared.table.Partition.{Partition}
-use Rattle.supervisor.specs.declared.table.Table.{Table}
+use Rattle.table.specs.declared.table.Partition.{Partition}
+use Rattle.table.specs.declared.table.Table.{Table}
 
 -- the partition of a pattern with those parameters, loaded at that location
 unfoldable pub partitionFor : Location → Parameters → Partition

@@ -2,7 +2,7 @@
 use Prim.Native.Nat.{_+_}
 use Rattle.common.specs.declared.places.Address.{Address}
 use Rattle.common.specs.declared.places.Location.{Location}
-use Rattle.supervisor.specs.declared.table.Partition.{Partition}
+use Rattle.table.specs.declared.table.Partition.{Partition}
 
 -- the location of a machine address: through the base, and in no other way
 abbrev pub locationOf : Partition → Address → Location

@@ -12,15 +12,16 @@ use Rattle.cpu.specs.Machine.{Machine}
 use Rattle.cpu.specs.declared.state.State.{State}
 use Rattle.slices.specs.SliceLaws.{copied-length, byte-before-copy, byte-after-copy}
 use Rattle.slices.specs.Slices.{copied}
-use Rattle.supervisor.specs.ConditionLaws.{SoundSystem, HoldsPattern}
-use Rattle.supervisor.specs.PartitionByteLaws.{OutsidePartition, outside-partition}
+use Rattle.table.specs.TableConditionLaws.{HoldsPattern}
+use Rattle.supervisor.specs.ConditionLaws.{SoundSystem}
+use Rattle.table.specs.PartitionByteLaws.{OutsidePartition, outside-partition}
 use Rattle.supervisor.specs.SlotMachineLaws.{machine-untouched}
 use Rattle.supervisor.specs.System.{System, system, slotOf, Patch, patch, patched, machineIn}
-use Rattle.supervisor.specs.SoundLaws.{StateSound, Loaded, Unloaded, slot-fact, slot-test, loaded-live, Apart, apart-cases, SlotsSound, numbered-slots, with-slot-same, with-slot-other, with-slot-size, with-slot-sound, with-slot-counted}
-use Rattle.supervisor.specs.Table.{InNoPartition, slotAt, slotWithState, withFreeBytes, isEmpty, isInPartition, partitionEnd}
-use Rattle.supervisor.specs.Sound.{slotSound}
-use Rattle.supervisor.specs.declared.table.Partition.{Partition}
-use Rattle.supervisor.specs.declared.table.Slot.{Slot}
+use Rattle.table.specs.SoundLaws.{StateSound, Loaded, Unloaded, slot-fact, slot-test, loaded-live, Apart, apart-cases, SlotsSound, numbered-slots, with-slot-same, with-slot-other, with-slot-size, with-slot-sound, with-slot-counted}
+use Rattle.table.specs.Table.{InNoPartition, slotAt, slotWithState, withFreeBytes, isEmpty, isInPartition, partitionEnd}
+use Rattle.table.specs.Sound.{slotSound}
+use Rattle.table.specs.declared.table.Partition.{Partition}
+use Rattle.table.specs.declared.table.Slot.{Slot}
 
 -- the machine of slot k
 abbrev pub slotMachine : ℕ → System → Machine

@@ -17,16 +17,17 @@ use Rattle.common.specs.RepetitionLaws.{times-add}
 use Rattle.cpu.specs.RestLaws.{times-rests}
 use Rattle.slices.specs.SliceLaws.{copy-self}
 use Rattle.slices.specs.Slices.{copied}
-use Rattle.supervisor.specs.ConditionLaws.{SoundSystem, HoldsPattern}
+use Rattle.table.specs.TableConditionLaws.{HoldsPattern}
+use Rattle.supervisor.specs.ConditionLaws.{SoundSystem}
 use Rattle.supervisor.specs.SlotMachineLaws.{HasLayout, bytes-length, slot-has-layout, slot-machine-bytes, written-back, machine-sound, state-sound}
 use Rattle.supervisor.specs.System.{System, system, slotOf, patched, machineIn}
 use Rattle.supervisor.specs.Running.{machineBytes, machineAfterQuantum, quantumPatch, slotQuantum, slotQuanta, afterRun}
 use Rattle.supervisor.specs.PatchLaws.{slotMachine, slot-inside, KeepsOthers, patched-slot, patch-keeps, state-fits, state-put}
-use Rattle.supervisor.specs.SoundLaws.{StateSound, Loaded, Unloaded, slot-fact, loaded-slot, loaded-live}
-use Rattle.supervisor.specs.Table.{InNoPartition, noSlot, slotAt, withSlot, slotWithState, isEmpty, isInPartition, partitionEnd}
-use Rattle.supervisor.specs.declared.table.Partition.{Partition}
-use Rattle.supervisor.specs.declared.table.Slot.{Slot}
-use Rattle.supervisor.specs.declared.table.Table.{Table}
+use Rattle.table.specs.SoundLaws.{StateSound, Loaded, Unloaded, slot-fact, loaded-slot, loaded-live}
+use Rattle.table.specs.Table.{InNoPartition, noSlot, slotAt, withSlot, slotWithState, isEmpty, isInPartition, partitionEnd}
+use Rattle.table.specs.declared.table.Partition.{Partition}
+use Rattle.table.specs.declared.table.Slot.{Slot}
+use Rattle.table.specs.declared.table.Table.{Table}
 
 -- y is x but for what runs in loaded slots, and their bytes
 pub record DiffersByRunning (x y : System) : Type 0 where

@@ -5,8 +5,8 @@ use mathlib.Core.List.{List, _++_}
 use Rattle.common.specs.Repetition.{times}
 use Rattle.cpu.specs.Machine.{Machine, machineStep}
 use Rattle.supervisor.specs.System.{Patch, System, machineIn, patch, patched, slotOf}
-use Rattle.supervisor.specs.Table.{slotWithState}
-use Rattle.supervisor.specs.declared.table.Slot.{Slot}
+use Rattle.table.specs.Table.{slotWithState}
+use Rattle.table.specs.declared.table.Slot.{Slot}
 
 -- a machine's bytes in the order of a partition
 abbrev pub machineBytes : Machine → List ℕ

@@ -15,10 +15,10 @@ use Rattle.cpu.specs.declared.state.State.{State}
 use Rattle.slices.specs.SliceLaws.{part-length, copied-inside, part-before-copy, part-after-copy}
 use Rattle.slices.specs.Slices.{partOf, copied}
 use Rattle.supervisor.specs.Running.{machineBytes}
-use Rattle.supervisor.specs.SoundLaws.{StateSound, Loaded}
-use Rattle.supervisor.specs.Table.{slotWithState, partitionEnd}
+use Rattle.table.specs.SoundLaws.{StateSound, Loaded}
+use Rattle.table.specs.Table.{slotWithState, partitionEnd}
 use Rattle.supervisor.specs.System.{machineIn}
-use Rattle.supervisor.specs.declared.table.Slot.{Slot}
+use Rattle.table.specs.declared.table.Slot.{Slot}
 
 -- a machine of that layout
 pub record HasLayout (l : Layout) (m : Machine) : Type 0 where

@@ -4,10 +4,10 @@ use mathlib.Core.List.{List}
 use Rattle.common.specs.Layout.{layoutSize}
 use Rattle.cpu.specs.Machine.{Machine, machineOf}
 use Rattle.slices.specs.Slices.{copied, partOf}
-use Rattle.supervisor.specs.Table.{slotAt, withSlot}
+use Rattle.table.specs.Table.{slotAt, withSlot}
 use Rattle.common.specs.declared.places.Location.{Location}
-use Rattle.supervisor.specs.declared.table.Slot.{Slot}
-use Rattle.supervisor.specs.declared.table.Table.{Table}
+use Rattle.table.specs.declared.table.Slot.{Slot}
+use Rattle.table.specs.declared.table.Table.{Table}
 
 -- a table and its memory
 pub record System : Type 0 where

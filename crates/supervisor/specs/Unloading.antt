@@ -2,8 +2,8 @@
 use lib.ListN.{replicate}
 use Rattle.common.specs.Layout.{layoutSize}
 use Rattle.supervisor.specs.System.{Patch, patch}
-use Rattle.supervisor.specs.Table.{emptySlot}
-use Rattle.supervisor.specs.declared.table.Slot.{Slot}
+use Rattle.table.specs.Table.{emptySlot}
+use Rattle.table.specs.declared.table.Slot.{Slot}
 
 -- the partition is zeroed and the slot emptied
 unfoldable pub unloadPatch : Slot → Patch

@@ -2,9 +2,9 @@
 use crate::conditions::system_loaded_slot_refusal;
 use crate::location::output_location;
 use crate::resuming::resumed_status;
-use crate::table::Slot;
-use crate::table::Table;
 use cpu::State;
+use table::Slot;
+use table::Table;
 ghost use mathlib.Core.Path.{_≡_};
 ghost use lib.ListN.{length};
 ghost use Rattle.supervisor.specs.Calls as calls;

@@ -2,10 +2,10 @@
 use crate::conditions::system_loaded_slot_refusal;
 use crate::location::input_location;
 use crate::resuming::resumed_status;
-use crate::table::Answer;
-use crate::table::Slot;
-use crate::table::Table;
 use cpu::State;
+use table::Answer;
+use table::Slot;
+use table::Table;
 ghost use mathlib.Core.Path.{_≡_};
 ghost use Rattle.supervisor.specs.Calls as calls;
 ghost use Rattle.supervisor.specs.Calls.{refusal, outcome, outcomeOf};

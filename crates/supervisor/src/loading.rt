@@ -1,13 +1,13 @@
 // Loading: a pattern file into an empty slot and its partition.
 use crate::conditions::system_empty_slot_refusal;
-use crate::free_bytes::count_free;
-use crate::sound::is_clear_of_others;
-use crate::table::Answer;
-use crate::table::Partition;
-use crate::table::Slot;
-use crate::table::Table;
 use common::Location;
 use pattern::Parameters;
+use table::Answer;
+use table::Partition;
+use table::Slot;
+use table::Table;
+use table::count_free;
+use table::is_clear_of_others;
 ghost use mathlib.Core.Path.{_≡_};
 ghost use Prim.Native.Nat.{_<_};
 ghost use Rattle.common.specs.Refusals.{refusalBy};

@@ -1,10 +1,10 @@
 // Locations in memory, from a partition's addresses.
-use crate::table::Partition;
 use common::Address;
 use common::Location;
+use table::Partition;
 ghost use mathlib.Core.Path.{_≡_};
 ghost use Prim.Native.Nat.{_+_, _<_, _≤_};
-ghost use Rattle.supervisor.specs.Table.{partitionEnd};
+ghost use Rattle.table.specs.Table.{partitionEnd};
 ghost use Rattle.supervisor.specs.Location.{locationOf, inputLocation, outputLocation};
 
 // The location of a machine address: the only way from one to the other is the partition's base.

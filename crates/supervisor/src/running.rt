@@ -8,13 +8,13 @@ ghost use Rattle.supervisor.specs.Calls as calls;
 ghost use Rattle.supervisor.specs.Calls.{outcome, outcomeOf};
 ghost use Rattle.supervisor.specs.System.{system};
 ghost use Rattle.supervisor.specs.Running.{machineBytes, afterQuantum, afterRun};
-ghost use Rattle.supervisor.specs.Table.{partitionEnd};
-ghost use Rattle.supervisor.specs.Sound.{tableSound};
+ghost use Rattle.table.specs.Table.{partitionEnd};
+ghost use Rattle.table.specs.Sound.{tableSound};
 use crate::conditions::system_refusal;
-use crate::table::Answer;
-use crate::table::Slot;
-use crate::table::Table;
 use cpu::State;
+use table::Answer;
+use table::Slot;
+use table::Table;
 
 // One slot's quantum: its machine is lent its partition's bytes and nothing else.
 fn run_quantum(slot: Slot, memory: &mut [u8]) -> State

@@ -1,9 +1,9 @@
 // Unloading: the partition is zeroed, so that nothing of the pattern is left, and the slot emptied.
 use crate::conditions::system_loaded_slot_refusal;
-use crate::free_bytes::count_free;
-use crate::table::Answer;
-use crate::table::Slot;
-use crate::table::Table;
+use table::Answer;
+use table::Slot;
+use table::Table;
+use table::count_free;
 ghost use mathlib.Core.Path.{_≡_};
 ghost use Rattle.supervisor.specs.Calls as calls;
 ghost use Rattle.supervisor.specs.Calls.{outcome, outcomeOf};

@@ -8,7 +8,7 @@ use native.Mathlib.Omega.{arith}
 use Rattle.slices.specs.SliceLaws.{copied-next, copied-all}
 use Rattle.slices.specs.PieceLaws.{PiecesPut, pieces-none, pieces-more, pieces-all, pieces-size}
 use Rattle.slices.specs.Slices.{concat}
-use Rattle.supervisor.specs.Table.{noSlot}
+use Rattle.table.specs.Table.{noSlot}
 use Rattle.host.specs.TableEncoding.{slotLength, slotsOffset, tableLength, slotBytes, headBytes, tableBytes}
 use borrow.Author.Needs.{needs}
 use Rattle.host.proofs.table_encoding.put_table.Statement.{statement}

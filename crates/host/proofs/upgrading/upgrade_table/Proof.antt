@@ -1,7 +1,7 @@
 -- `host::upgrading::upgrade_table`: by the length, and then by that version's rules (UpgradeLaws.antt).
 use mathlib.Core.Path.{_∙_, ap}
 use Rattle.host.proofs.UpgradeLaws.{uncounted-made, other-refused, today-made}
-use Rattle.supervisor.specs.Recounting.{recountOf}
+use Rattle.table.specs.Recounting.{recountOf}
 use borrow.Author.Needs.{needs}
 use Rattle.host.proofs.upgrading.upgrade_table.Statement.{statement}
 use Rattle.host.proofs.upgrading.upgrade_table.Tie as tie

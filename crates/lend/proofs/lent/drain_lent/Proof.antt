@@ -43,11 +43,11 @@ use denote.Triple.Walked.{says, Stays, stay-ref, stay-dropped, gave-slice, walkO
 use denote.Exit.{yes}
 -- from here on the product's own: definitions, the three structs, the core, and the function itself
 use Rattle.lend.specs.Lent.{drainSlotOutcome, drainSlotOf}
-use Rattle.supervisor.specs.declared.table.Slot.{Slot}
+use Rattle.table.specs.declared.table.Slot.{Slot}
 use Rattle.lend.specs.declared.lent.SlotAnswer.{SlotAnswer}
 use Rattle.lend.specs.declared.lent.LentAnswer.{LentAnswer}
-use Rattle.supervisor.proofs.table.Slot as S
-use Rattle.supervisor.proofs.table.Slot.Laws as S′
+use Rattle.table.proofs.table.Slot as S
+use Rattle.table.proofs.table.Slot.Laws as S′
 use Rattle.lend.proofs.lent.SlotAnswer as D
 use Rattle.lend.proofs.lent.SlotAnswer.Laws as D′
 use Rattle.lend.proofs.lent.LentAnswer as L

@@ -2,8 +2,8 @@
 use Rattle.lend.specs.AloneLaws.{not-new, not-alone, new-table, by-draining}
 use Rattle.lend.specs.Lent.{drainSlotOutcome}
 use Rattle.lend.specs.declared.lent.SlotAnswer.{SlotAnswer}
-use Rattle.supervisor.specs.RecountingLaws.{recount-accepted, recount-refused}
-use Rattle.supervisor.specs.Table.{slotAt, withSlot}
+use Rattle.table.specs.RecountingLaws.{recount-accepted, recount-refused}
+use Rattle.table.specs.Table.{slotAt, withSlot}
 use mathlib.Core.Path.{_∙_, ap, sym}
 use borrow.Author.Needs.{needs}
 use Rattle.lend.proofs.lent.drain_slot.Statement.{statement}

@@ -1,4 +1,4 @@
-use Rattle.supervisor.specs.Table.{slotAt}
+use Rattle.table.specs.Table.{slotAt}
 use mathlib.Core.Path.{refl}
 use borrow.Author.Needs.{needs}
 use Rattle.listing.proofs.until_stopped.is_running.Statement.{statement}

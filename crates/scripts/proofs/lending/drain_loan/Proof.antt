@@ -42,11 +42,11 @@ use denote.Triple.Walked.{says, Stays, stay-dropped, gave-slice, walkOf, AllGo, 
 use denote.Exit.{yes}
 use borrow.Table.OneValue.{part-in, part-out}
 use Rattle.lend.specs.Lent.{drainSlotOf, drainLentOutcome}
-use Rattle.supervisor.specs.declared.table.Slot.{Slot}
+use Rattle.table.specs.declared.table.Slot.{Slot}
 use Rattle.lend.specs.declared.lent.SlotAnswer.{SlotAnswer}
 use Rattle.lend.specs.declared.lent.LentAnswer.{LentAnswer}
-use Rattle.supervisor.proofs.table.Slot as S
-use Rattle.supervisor.proofs.table.Slot.Laws as S′
+use Rattle.table.proofs.table.Slot as S
+use Rattle.table.proofs.table.Slot.Laws as S′
 use Rattle.lend.proofs.lent.SlotAnswer as D
 use Rattle.lend.proofs.lent.SlotAnswer.Laws as D′
 use Rattle.lend.proofs.lent.LentAnswer as L

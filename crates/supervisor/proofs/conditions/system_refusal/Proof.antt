@@ -2,8 +2,9 @@
 use mathlib.Core.Path.{sym, _∙_}
 use borrow.Author.Tests.{eq-eqb, ne-eqb}
 use Rattle.common.specs.RefusalLaws.{refused-by-front, left-to-rest}
-use Rattle.supervisor.specs.ConditionLaws.{table-numbered}
-use Rattle.supervisor.specs.Conditions.{tableConditions, systemConditions}
+use Rattle.table.specs.TableConditionLaws.{table-numbered}
+use Rattle.table.specs.TableConditions.{tableConditions}
+use Rattle.supervisor.specs.Conditions.{systemConditions}
 use Rattle.common.specs.ConditionDefinitions.{condition-definitions}
 use borrow.Author.Needs.{needs}
 use Rattle.supervisor.proofs.conditions.system_refusal.Statement.{statement}

@@ -10,7 +10,7 @@ use Rattle.supervisor.specs.Calls.{drainedCount, drainedBuffer}
 use Rattle.supervisor.specs.Calls as calls
 use Rattle.supervisor.specs.ChangeLaws.{drain-accepted}
 use Rattle.supervisor.specs.Draining.{drainPatch}
-use Rattle.supervisor.specs.Table.{slotAt}
+use Rattle.table.specs.Table.{slotAt}
 use Rattle.supervisor.proofs.LoadedSlotLaws.{loaded-end}
 use Rattle.supervisor.proofs.DrainingLaws.{drained-buffer}
 use Rattle.supervisor.specs.OutcomeLaws.{refused-outcome, accepted-outcome}

@@ -4,7 +4,7 @@ use denote.Ref.{now}
 use Rattle.supervisor.specs.Calls as calls
 use Rattle.supervisor.specs.ChangeLaws.{feed-accepted}
 use Rattle.supervisor.specs.Feeding.{feedPatch}
-use Rattle.supervisor.specs.Table.{slotAt}
+use Rattle.table.specs.Table.{slotAt}
 use Rattle.supervisor.proofs.LoadedSlotLaws.{loaded-end}
 use Rattle.supervisor.specs.OutcomeLaws.{refused-outcome, accepted-outcome}
 use Rattle.supervisor.specs.CallDefinitions.{patch-definitions}

@@ -8,9 +8,10 @@ use Rattle.common.specs.RefusalLaws.{refused-by-front, left-to-rest}
 use Rattle.supervisor.specs.Calls.{changeConditions, refusal}
 use Rattle.supervisor.specs.ConditionLaws.{ready-numbered, refusal-ready}
 use Rattle.supervisor.specs.System.{system}
-use Rattle.supervisor.specs.Conditions.{systemConditions, loadedSlotConditions}
+use Rattle.table.specs.TableConditions.{loadedSlotConditions}
+use Rattle.supervisor.specs.Conditions.{systemConditions}
 use Rattle.supervisor.specs.Feeding.{feedConditions}
-use Rattle.supervisor.specs.Table.{slotAt}
+use Rattle.table.specs.Table.{slotAt}
 use Rattle.common.specs.ConditionDefinitions.{condition-definitions}
 use borrow.Author.Needs.{needs}
 use Rattle.supervisor.proofs.feeding.feed_refusal.Statement.{statement}

@@ -7,8 +7,8 @@ use Rattle.supervisor.specs.Calls as calls
 use Rattle.supervisor.specs.ChangeLaws.{change-slots}
 use Rattle.supervisor.specs.System.{system, patched}
 use Rattle.supervisor.specs.Loading.{partitionFor, locationConditions, loadPatch}
-use Rattle.supervisor.specs.declared.table.Partition.{Partition}
-use Rattle.supervisor.proofs.LoadingLaws.{load-stops, load-refused, load-places, slots-of, vacant-accepted}
+use Rattle.table.specs.declared.table.Partition.{Partition}
+use Rattle.supervisor.proofs.LoadingLaws.{load-stops, load-refused, load-places, vacant-accepted}
 use Rattle.supervisor.specs.OutcomeLaws.{refused-outcome, accepted-outcome, counted-patch}
 use borrow.Author.Needs.{needs}
 use Rattle.supervisor.proofs.loading.load.Statement.{statement}
@@ -69,14 +69,7 @@ load-slot-requires c κs =
     (h .1, (sym (c .before .before .before .before .before .before .before .read .ensures) ∙ c .before .before .before .before .before .answer .given .1, rw (c .before .before .before .partition-for .ensures)))
 
 count-free-requires : tie.Need-count-free-requires
-unfolding patchOf partitionFor
-count-free-requires c κs =
-    let start = c .before .before .before .before .before .before .before .before .before .before .before .before .before .before .before .before .args in
-    let x = system (start .table) (now (start .memory)) in
-    let sound = vacant-accepted x (start .slot) (c .before .before .before .before .before .before .before .before .before .before .before .before .system-empty-slot-refusal .ensures) (c .before .before .before .before .before .before .before .before .before .before .before .if1 .left) .0 in
-    let h = load-places _ (start .slot) (start .location) (now (start .file)) (c .before .before .before .before .before .before .before .before .before .before .before .before .system-empty-slot-refusal .ensures) (c .before .before .before .before .before .before .before .before .before .before .before .if1 .left) (c .before .before .before .before .before .before .before .before .before .before .read .result) (c .before .before .before .before .before .before .before .before .before .before .read .ensures) (c .before .before .before .before .before .before .before .before .answer .given .1) in
-    let none = h ∙ sym (ap (λ (p : Partition). refusalBy (locationConditions (start .table) (start .slot) p)) (c .before .before .before .before .before .before .partition-for .ensures)) ∙ sym (c .before .before .before .before .before .location-refusal .ensures) ∙ c .before .before .before .before .if2 .left in
-    slots-of (patched x (start .slot) (loadPatch (start .location) (now (start .file)))) (c .before .before .load-slot .ensures ∙ rw (c .before .before .before .before .before .before .partition-for .ensures)) (change-slots x sound (start .slot) (calls.load (start .location) (now (start .file))) none)
+count-free-requires c κs = search needs
 
 same-length-4 : tie.Need-same-length-4
 same-length-4 c = search needs
@@ -85,8 +78,12 @@ returns-4 : tie.Need-returns-4
 unfolding afterAccepted countedAfter patchOf partitionFor
 returns-4 c =
     let start = c .before .before .before .before .before .before .before .before .before .before .before .before .before .before .before .before .before .args in
-    let h = load-places _ (start .slot) (start .location) (now (start .file)) (c .before .before .before .before .before .before .before .before .before .before .before .before .before .system-empty-slot-refusal .ensures) (c .before .before .before .before .before .before .before .before .before .before .before .before .if1 .left) (c .before .before .before .before .before .before .before .before .before .before .before .read .result) (c .before .before .before .before .before .before .before .before .before .before .before .read .ensures) (c .before .before .before .before .before .before .before .before .before .answer .given .1) in
-    accepted-outcome (calls.change (start .slot) (calls.load (start .location) (now (start .file)))) _ _ _ (c .before .before .before .before .before .before .location-refusal .ensures ∙ ap (λ (p : Partition). refusalBy (locationConditions (start .table) (start .slot) p)) (c .before .before .before .before .before .before .before .partition-for .ensures) ∙ sym h) (c .before .before .before .before .before .if2 .left) (counted-patch _ _ _ _ (c .count-free .ensures) (c .before .before .before .load-slot .ensures ∙ rw (c .before .before .before .before .before .before .before .partition-for .ensures)))
+    let x = system (start .table) (now (start .memory)) in
+    let sound = vacant-accepted x (start .slot) (c .before .before .before .before .before .before .before .before .before .before .before .before .before .system-empty-slot-refusal .ensures) (c .before .before .before .before .before .before .before .before .before .before .before .before .if1 .left) .0 in
+    let h = load-places x (start .slot) (start .location) (now (start .file)) (c .before .before .before .before .before .before .before .before .before .before .before .before .before .system-empty-slot-refusal .ensures) (c .before .before .before .before .before .before .before .before .before .before .before .before .if1 .left) (c .before .before .before .before .before .before .before .before .before .before .before .read .result) (c .before .before .before .before .before .before .before .before .before .before .before .read .ensures) (c .before .before .before .before .before .before .before .before .before .answer .given .1) in
+    let same = c .before .before .before .before .before .before .location-refusal .ensures ∙ ap (λ (p : Partition). refusalBy (locationConditions (start .table) (start .slot) p)) (c .before .before .before .before .before .before .before .partition-for .ensures) ∙ sym h in
+    let slots = change-slots x sound (start .slot) (calls.load (start .location) (now (start .file))) (sym same ∙ c .before .before .before .before .before .if2 .left) in
+    accepted-outcome (calls.change (start .slot) (calls.load (start .location) (now (start .file)))) x _ _ same (c .before .before .before .before .before .if2 .left) (counted-patch (patched x (start .slot) (loadPatch (start .location) (now (start .file)))) _ _ _ (c .count-free .ensures) (c .before .before .before .load-slot .ensures ∙ rw (c .before .before .before .before .before .before .before .partition-for .ensures)) slots)
 
 pub load-spec : {M : Type 1} → statement M
 load-spec =

@@ -8,7 +8,7 @@ use denote.Ref.{now}
 use Rattle.pattern.specs.ReaderLaws.{accepted-fact, input-fits, read-ranges}
 use Rattle.supervisor.specs.Loading.{partitionFor, loadPatch}
 use Rattle.supervisor.specs.System.{patched}
-use Rattle.supervisor.specs.Table.{withSlot}
+use Rattle.table.specs.Table.{withSlot}
 use borrow.Author.Needs.{needs}
 use Rattle.supervisor.proofs.loading.load_slot.Statement.{statement}
 use Rattle.supervisor.proofs.loading.load_slot.Tie as tie

@@ -1,6 +1,6 @@
 use Rattle.supervisor.proofs.RunningLaws.{quantum-state, quantum-memory}
 use Rattle.common.specs.Layout.{layoutSize}
-use Rattle.supervisor.specs.Table.{partitionEnd}
+use Rattle.table.specs.Table.{partitionEnd}
 use Rattle.slices.specs.SliceLaws.{part-length}
 use Prim.Native.Nat.{_+_, _-_, _≤_}
 use mathlib.Core.Path.{_≡_, sym, _∙_}

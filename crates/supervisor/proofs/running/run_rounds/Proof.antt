@@ -1,9 +1,9 @@
-use Rattle.supervisor.specs.declared.table.Table.{Table}
+use Rattle.table.specs.declared.table.Table.{Table}
 use Rattle.supervisor.proofs.RunningLaws.{quantum-taken, quantum-skipped, quanta-zero, quanta-more, quanta-sound, rounds-begin, rounds-more, rounds-sound, rounds-done, start-sound}
 use Rattle.supervisor.specs.System.{System, system}
 use Rattle.supervisor.specs.Running.{slotQuanta}
 use Rattle.supervisor.specs.PatchLaws.{slot-inside}
-use Rattle.supervisor.specs.Table.{slotAt, withSlot}
+use Rattle.table.specs.Table.{slotAt, withSlot}
 use Rattle.common.specs.Repetition.{times}
 use Prim.Native.Nat.{_-_, _≤_, _<_}
 use mathlib.Core.Path.{_≡_, refl, ap, _∙_}

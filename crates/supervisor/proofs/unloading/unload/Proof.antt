@@ -51,10 +51,7 @@ element-set-from-empty c =
     refusal-ready _ (c .before .before .before .before .before .before .before .before .before .before .before .before .before .before .before .args .slot) (c .before .before .before .before .before .before .before .before .before .before .before .before .system-loaded-slot-refusal .ensures) (c .before .before .before .before .before .before .before .before .before .before .before .if1 .left) .holds .slot
 
 count-free-requires : tie.Need-count-free-requires
-unfolding patch-definitions refusal changeConditions unloadPatch
-count-free-requires c κs =
-    let ready = refusal-ready _ (c .before .before .before .before .before .before .before .before .before .before .before .before .before .before .before .args .slot) (c .before .before .before .before .before .before .before .before .before .before .before .before .system-loaded-slot-refusal .ensures) (c .before .before .before .before .before .before .before .before .before .before .before .if1 .left) in
-    rw (c .empty .ensures) (change-slots _ (ready .system) (c .before .before .before .before .before .before .before .before .before .before .before .before .before .before .before .args .slot) calls.unload (sym (c .before .before .before .before .before .before .before .before .before .before .before .before .system-loaded-slot-refusal .ensures) ∙ c .before .before .before .before .before .before .before .before .before .before .before .if1 .left))
+count-free-requires c κs = search needs
 
 same-length-2 : tie.Need-same-length-2
 same-length-2 c = search needs
@@ -62,7 +59,8 @@ same-length-2 c = search needs
 returns-2 : tie.Need-returns-2
 unfolding patch-definitions refusal changeConditions unloadPatch
 returns-2 c =
-    accepted-outcome (calls.change (c .before .before .before .before .before .before .before .before .before .before .before .before .before .before .before .before .args .slot) calls.unload) _ _ _ (c .before .before .before .before .before .before .before .before .before .before .before .before .before .system-loaded-slot-refusal .ensures) (c .before .before .before .before .before .before .before .before .before .before .before .before .if1 .left) (counted-patch _ _ _ _ (c .count-free .ensures) (rw (c .before .empty .ensures, c .before .before .before .before .fill .ensures, c .before .before .before .before .before .size .ensures)))
+    let ready = refusal-ready _ (c .before .before .before .before .before .before .before .before .before .before .before .before .before .before .before .before .args .slot) (c .before .before .before .before .before .before .before .before .before .before .before .before .before .system-loaded-slot-refusal .ensures) (c .before .before .before .before .before .before .before .before .before .before .before .before .if1 .left) in
+    accepted-outcome (calls.change (c .before .before .before .before .before .before .before .before .before .before .before .before .before .before .before .before .args .slot) calls.unload) _ _ _ (c .before .before .before .before .before .before .before .before .before .before .before .before .before .system-loaded-slot-refusal .ensures) (c .before .before .before .before .before .before .before .before .before .before .before .before .if1 .left) (counted-patch _ _ _ _ (c .count-free .ensures) (rw (c .before .empty .ensures, c .before .before .before .before .fill .ensures, c .before .before .before .before .before .size .ensures)) (change-slots _ (ready .system) (c .before .before .before .before .before .before .before .before .before .before .before .before .before .before .before .before .args .slot) calls.unload (sym (c .before .before .before .before .before .before .before .before .before .before .before .before .before .system-loaded-slot-refusal .ensures) ∙ c .before .before .before .before .before .before .before .before .before .before .before .before .if1 .left)))
 
 pub unload-spec : {M : Type 1} → statement M
 unload-spec =
