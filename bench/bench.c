@@ -13,7 +13,7 @@ static int usage(void)
 {
     fprintf(stderr,
             "usage: bench [FILE]          prints the two lines of a pattern file, or of standard input\n"
-            "       bench --vectors DATA  makes the stored bench runs and compares\n"
+            "       bench --vectors DATA  reads and writes the stored pattern files, makes their bench runs and compares\n"
             "       bench --scripts DATA  makes the calls of the stored scripts and compares\n"
             "       bench --earlier DATA  takes over a system that an earlier version stored, runs it and compares\n"
             "       bench --speed DIR     prints instructions a second of the patterns in DIR, beside the reference's\n");

@@ -157,17 +157,17 @@ __attribute__((noinline)) static path follow_machine(const instruction *i, uint8
     put_partition(partition, i, byte);
     state[STATUS] = PF_STATUS_RUNNING;
     state[FILLED] = input_length(i);
-    pf_machine_run(state, sizeof state, partition, sizeof partition, WINDOW, INPUT, OUTPUT, 1, STEPS_BEFORE);
+    pf_machine_run(state, sizeof state, partition, sizeof partition, WINDOW, INPUT, OUTPUT, 0, 1, STEPS_BEFORE);
     trap_on();
-    pf_machine_run(state, sizeof state, partition, sizeof partition, WINDOW, INPUT, OUTPUT, 1, 1);
+    pf_machine_run(state, sizeof state, partition, sizeof partition, WINDOW, INPUT, OUTPUT, 0, 1, 1);
     trap_off();
     return (path){ followed_length, followed_hash, state[STATUS], state[PSL] };
 }
 
-/* The file of a pattern with this partition, and a quantum of 1; answers its length. */
+/* The file of a pattern with this partition, a quantum of 1 and nothing locked; answers its length. */
 static size_t put_file(uint8_t *file, size_t length, const uint8_t *partition, uint8_t first_input_length)
 {
-    static const uint8_t parameters[PF_VALUES_BYTES] = { 0, WINDOW, 0, INPUT, 0, OUTPUT, 0, 0, 1 };
+    static const uint8_t parameters[PF_VALUES_BYTES] = { 0, WINDOW, 0, INPUT, 0, OUTPUT, 0, 0, 1, 0, 0 };
     return pf_count(pf_write(parameters, sizeof parameters, partition, WINDOW, partition + AT_INPUT, first_input_length, file, length));
 }
 

@@ -416,36 +416,49 @@ static ref_table random_old_table(const system_pair *both)
     return table;
 }
 
-/* A table in one of its two forms, or what a buffer of another length holds of it; sometimes random bytes. */
+/* A form that a table has or had: its length, its bytes, and the last of document 02's requests in the version that kept it, by whose
+ * rules it must be sound. */
+typedef struct {
+    size_t length;
+    void (*encode)(const ref_table *, uint8_t *);
+    void (*decode)(const uint8_t *, ref_table *);
+    int level;
+} table_form;
+
+static const table_form table_forms[] = {
+    { PF_UNCOUNTED_TABLE_BYTES, encode_uncounted_table, decode_uncounted_table, 4 },
+    { PF_UNLOCKED_TABLE_BYTES, encode_unlocked_table, decode_unlocked_table, 5 },
+    { PF_TABLE_BYTES, encode_table, decode_table, PRODUCT_LEVEL }
+};
+enum { TABLE_FORMS = sizeof table_forms / sizeof table_forms[0] };
+
+/* A table in one of its forms, or what a buffer of another length holds of it; sometimes random bytes. */
 static buffer_pair *lend_old_table(call *c, const ref_table *table)
 {
-    /* the last four are a form's length plus 256 or 65,536: one that is cut to fewer bits would be taken */
-    const size_t odd[] = { 0, 1, 363, PF_UNCOUNTED_TABLE_BYTES, 365, 371, PF_TABLE_BYTES, 373, 736, random_below(800),
-                           620, 628, 65900, 65908 };
-    const size_t form = random_one_in(2) ? PF_UNCOUNTED_TABLE_BYTES : PF_TABLE_BYTES;
+    /* the last six are a form's length plus 256 or 65,536: one that is cut to fewer bits would be taken */
+    const size_t odd[] = { 0, 1, 363, PF_UNCOUNTED_TABLE_BYTES, 365, 371, PF_UNLOCKED_TABLE_BYTES, 373, 387, PF_TABLE_BYTES, 389,
+                           736, random_below(800), 620, 628, 644, 65900, 65908, 65924 };
+    const table_form *form = &RANDOM_OF(table_forms);
     uint8_t bytes[PF_TABLE_BYTES];
-    (form == PF_UNCOUNTED_TABLE_BYTES ? encode_uncounted_table : encode_table)(table, bytes);
-    buffer_pair *old = lend_buffer(c, "old", random_one_in(8) ? RANDOM_OF(odd) : form);
-    if (!random_one_in(16)) memcpy(old->reference, bytes, smaller(form, old->length));
+    form->encode(table, bytes);
+    buffer_pair *old = lend_buffer(c, "old", random_one_in(8) ? RANDOM_OF(odd) : form->length);
+    if (!random_one_in(16)) memcpy(old->reference, bytes, smaller(form->length, old->length));
     buffer_pair_copy_to_product(old);
     return old;
 }
 
-/* Of a table in the old form the reference tests all but the free bytes, as it did before it had them. These are then
- * counted. Answers whether the table is sound by the rules of its version. */
+/* The reference tests a table by the rules of the version that had its form: one from before the free bytes without them, and
+ * one from before the lock without a status 8. What the form does not hold is then worked out. Answers whether the table is sound. */
 static int take_over(const buffer_pair *old, ref_table *table)
 {
-    enum { UNCOUNTED_LEVEL = 4 };     /* the last of document 02's requests before the one that added them */
-    if (old->length == PF_TABLE_BYTES) {
-        decode_table(old->reference, table);
-        return ref_sound(table);
-    }
-    if (old->length != PF_UNCOUNTED_TABLE_BYTES) return 0;
-    decode_uncounted_table(old->reference, table);
-    ref_level = UNCOUNTED_LEVEL;
+    size_t k = 0;
+    while (k < TABLE_FORMS && table_forms[k].length != old->length) k++;
+    if (k == TABLE_FORMS) return 0;
+    table_forms[k].decode(old->reference, table);
+    ref_level = table_forms[k].level;
     int sound = ref_sound(table);
     ref_level = PRODUCT_LEVEL;
-    table_count_free(table);
+    if (old->length == PF_UNCOUNTED_TABLE_BYTES) table_count_free(table);
     return sound;
 }
 
@@ -456,7 +469,7 @@ static void make_upgrade(call *c, system_pair *both)
     c->table = lend_buffer(c, "table", random_one_in(8) ? random_other_length(PF_TABLE_BYTES) : PF_TABLE_BYTES);
     c->answer = pf_upgrade(PRODUCT_ARGS(old), PRODUCT_ARGS(c->table));
     c->refusal = !take_over(old, &table) ? PF_NOT_SOUND : !has_full_table(c) ? PF_SHORT : 0;
-    c->taken_over = !c->refusal && old->length == PF_UNCOUNTED_TABLE_BYTES;
+    c->taken_over = !c->refusal && old->length != PF_TABLE_BYTES ? old->length : 0;
     if (!c->refusal) encode_table(&table, c->table->reference);
 }
 
@@ -490,7 +503,7 @@ static void make_stretch(call *c)
     }
 }
 
-/* parameters to write, one of them sometimes at an edge or past it */
+/* parameters to write, of which half lock something; one of them is sometimes at an edge or past it */
 static ref_parameters random_parameters(void)
 {
     static const uint16_t edges[] = { 0, 1, 4096, 4097, 32768, 32769, 65535 };
@@ -501,13 +514,16 @@ static ref_parameters random_parameters(void)
     p.output = (uint16_t)random_between(1, 4096);
     p.start = (uint16_t)random_below(p.window);
     p.quantum = (uint8_t)random_between(1, 255);
-    switch (random_below(40)) {
+    p.locked = random_one_in(2) ? 0 : (uint32_t)random_between(1, p.window);
+    switch (random_below(48)) {
     case 0: p.window = RANDOM_OF(edges); break;
     case 1: p.input = RANDOM_OF(edges); break;
     case 2: p.output = RANDOM_OF(edges); break;
     case 3: p.start = RANDOM_OF(edges); break;
     case 4: p.start = (uint16_t)(p.window - random_below(2)); break;
     case 5: p.quantum = 0; break;
+    case 6: p.locked = RANDOM_OF(edges); break;
+    case 7: case 8: p.locked = p.window + (uint32_t)random_below(2); break;
     default: break;
     }
     return p;
@@ -546,17 +562,18 @@ static size_t trimmed_length(const buffer_pair *image)
 
 static void make_write(call *c)
 {
+    enum { LOCKED_BYTES = 2 };      /* which form 2 has more than form 1 */
     ref_parameters p = random_parameters();
     buffer_pair *parameters = lend_parameters(c, &p), *image = lend_image(c, p.window);
     size_t input_length = random_one_in(4) ? p.input + random_below(2) : random_below(p.input + 1u);
     buffer_pair *input = lend_buffer(c, "input", input_length);
-    size_t file_length = PF_FILE_LEAST + trimmed_length(image) + input->length;
+    size_t file_length = PF_FILE_LEAST + (p.locked ? LOCKED_BYTES : 0) + trimmed_length(image) + input->length;
     buffer_pair *buffer = lend_buffer(c, "buffer", random_room_for(file_length));
     size_t count = 0;
     c->answer = pf_write(PRODUCT_ARGS(parameters), PRODUCT_ARGS(image), PRODUCT_ARGS(input), PRODUCT_ARGS(buffer));
     c->refusal = parameters->length != PF_VALUES_BYTES ? PF_VALUES
-        : (unsigned)ref_write_file(p.window, p.input, p.output, p.start, p.quantum, REFERENCE_ARGS(image),
-                                   REFERENCE_ARGS(input), REFERENCE_ARGS(buffer), &count);
+        : (unsigned)ref_write_locked(p.window, p.input, p.output, p.start, p.quantum, p.locked, REFERENCE_ARGS(image),
+                                     REFERENCE_ARGS(input), REFERENCE_ARGS(buffer), &count);
     c->expected = (uint32_t)count;
 }
 

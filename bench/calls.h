@@ -29,7 +29,7 @@ typedef struct {
     size_t slot, location, length, size;
     uint16_t rounds;
     int fitted;                 /* pf_fit told the location of this load */
-    int taken_over;             /* pf_upgrade was given a table of an earlier version, and took it */
+    size_t taken_over;          /* the length of an earlier version's table that pf_upgrade was given, and took; else 0 */
     buffer_pair *table, *memory;       /* the system's, or one among those lent: for pf_upgrade the new table */
     buffer_pair buffers[MAX_BUFFERS];       /* buffers for this call alone */
     size_t buffer_count;

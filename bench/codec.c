@@ -17,12 +17,16 @@ static uint8_t *put_banks(uint8_t *p, const uint8_t bank[2][3])
     return p;
 }
 
-static uint8_t *put_slot(uint8_t *p, const ref_slot *s)
+/* A table of this version has a slot's lock between its output capacity and its quantum; those of earlier versions have none. */
+enum lock_bytes { WITHOUT_LOCK, WITH_LOCK };
+
+static uint8_t *put_slot(uint8_t *p, const ref_slot *s, enum lock_bytes lock)
 {
     p = put_u32(p, s->base);
     p = put_u16(p, s->window);
     p = put_u16(p, s->input);
     p = put_u16(p, s->output);
+    if (lock == WITH_LOCK) p = put_u16(p, s->locked);
     p = put_u8(p, s->quantum);
     p = put_u16(p, s->pc);
     p = put_banks(put_u8(p, s->r0), s->bank);
@@ -32,19 +36,26 @@ static uint8_t *put_slot(uint8_t *p, const ref_slot *s)
     return put_u16(put_u16(put_u16(p, s->filled), s->read), s->written);
 }
 
-static void put_slots(uint8_t *p, const ref_table *table)
+static void put_slots(uint8_t *p, const ref_table *table, enum lock_bytes lock)
 {
-    for (int k = 0; k < SLOTS; k++) p = put_slot(p, &table->slots[k]);
+    for (int k = 0; k < SLOTS; k++) p = put_slot(p, &table->slots[k], lock);
 }
 
-void encode_table(const ref_table *table, uint8_t *bytes)
+static uint8_t *put_numbers(uint8_t *p, const ref_table *table)
 {
-    put_slots(put_u32(put_u32(put_u32(bytes, table->memory_length), table->free), table->widest), table);
+    return put_u32(put_u32(put_u32(p, table->memory_length), table->free), table->widest);
+}
+
+void encode_table(const ref_table *table, uint8_t *bytes) { put_slots(put_numbers(bytes, table), table, WITH_LOCK); }
+
+void encode_unlocked_table(const ref_table *table, uint8_t *bytes)
+{
+    put_slots(put_numbers(bytes, table), table, WITHOUT_LOCK);
 }
 
 void encode_uncounted_table(const ref_table *table, uint8_t *bytes)
 {
-    put_slots(put_u32(bytes, table->memory_length), table);
+    put_slots(put_u32(bytes, table->memory_length), table, WITHOUT_LOCK);
 }
 
 static uint8_t get_u8(const uint8_t **p) { return *(*p)++; }
@@ -61,12 +72,13 @@ static uint32_t get_u32(const uint8_t **p)
     return high << 16 | get_u16(p);
 }
 
-static void get_slot(const uint8_t **p, ref_slot *s)
+static void get_slot(const uint8_t **p, ref_slot *s, enum lock_bytes lock)
 {
     s->base = get_u32(p);
     s->window = get_u16(p);
     s->input = get_u16(p);
     s->output = get_u16(p);
+    s->locked = lock == WITH_LOCK ? get_u16(p) : 0;
     s->quantum = get_u8(p);
     s->pc = get_u16(p);
     s->r0 = get_u8(p);
@@ -81,21 +93,37 @@ static void get_slot(const uint8_t **p, ref_slot *s)
     s->written = get_u16(p);
 }
 
+static void get_slots(const uint8_t *p, ref_table *table, enum lock_bytes lock)
+{
+    for (int k = 0; k < SLOTS; k++) get_slot(&p, &table->slots[k], lock);
+}
+
 /* The table is zeroed first: the reference has fields for later requests, which no bytes of a table hold. */
-void decode_table(const uint8_t *bytes, ref_table *table)
+static void get_numbers(const uint8_t **p, ref_table *table)
 {
     memset(table, 0, sizeof *table);
-    table->memory_length = get_u32(&bytes);
-    table->free = get_u32(&bytes);
-    table->widest = get_u32(&bytes);
-    for (int k = 0; k < SLOTS; k++) get_slot(&bytes, &table->slots[k]);
+    table->memory_length = get_u32(p);
+    table->free = get_u32(p);
+    table->widest = get_u32(p);
+}
+
+void decode_table(const uint8_t *bytes, ref_table *table)
+{
+    get_numbers(&bytes, table);
+    get_slots(bytes, table, WITH_LOCK);
+}
+
+void decode_unlocked_table(const uint8_t *bytes, ref_table *table)
+{
+    get_numbers(&bytes, table);
+    get_slots(bytes, table, WITHOUT_LOCK);
 }
 
 void decode_uncounted_table(const uint8_t *bytes, ref_table *table)
 {
     memset(table, 0, sizeof *table);
     table->memory_length = get_u32(&bytes);
-    for (int k = 0; k < SLOTS; k++) get_slot(&bytes, &table->slots[k]);
+    get_slots(bytes, table, WITHOUT_LOCK);
 }
 
 void encode_report(const ref_reported *report, uint8_t *bytes)
@@ -108,5 +136,5 @@ void encode_report(const ref_reported *report, uint8_t *bytes)
 void encode_parameters(const ref_parameters *parameters, uint8_t *bytes)
 {
     bytes = put_u16(put_u16(put_u16(bytes, parameters->window), parameters->input), parameters->output);
-    put_u8(put_u16(bytes, parameters->start), parameters->quantum);
+    put_u16(put_u8(put_u16(bytes, parameters->start), parameters->quantum), parameters->locked);
 }

@@ -15,16 +15,17 @@
 #include <string.h>
 
 /* A run of so many calls must have met each refusal that the header lists at each call, and each status. */
-enum { FULL_RUN = 200000 };
+enum { FULL_RUN = 200000, STATUSES = ST_LOCKED + 1 };
 
 typedef struct {
     uint64_t seed, calls, steps;
 } run_length;
 
 typedef struct {
-    uint64_t lists, calls, steps, damaged, still_sound, written_from_outside, loaded_where_fitted, taken_over;
+    uint64_t lists, calls, steps, damaged, still_sound, written_from_outside, loaded_where_fitted, loaded_with_lock;
+    uint64_t uncounted, unlocked;   /* tables of earlier versions taken over, without the free bytes, and with them but no lock */
     uint64_t met[CALL_KINDS][REFUSAL_COUNT];
-    uint64_t statuses[8];           /* of all slots after each pf_run that was done */
+    uint64_t statuses[STATUSES];    /* of all slots after each pf_run that was done */
 } counts;
 
 /* ---- systems */
@@ -168,9 +169,11 @@ static void count(const call *c, const system_pair *both, counts *n)
     n->steps += c->steps;
     n->met[c->kind][c->refusal % REFUSAL_COUNT]++;
     n->loaded_where_fitted += c->fitted && !c->refusal;
-    n->taken_over += c->taken_over != 0;
+    n->loaded_with_lock += c->kind == CALL_LOAD && !c->refusal && both->reference_table.slots[c->slot].locked;
+    n->uncounted += c->taken_over == PF_UNCOUNTED_TABLE_BYTES;
+    n->unlocked += c->taken_over == PF_UNLOCKED_TABLE_BYTES;
     if (c->kind != CALL_RUN || c->refusal) return;
-    for (size_t k = 0; k < SLOTS; k++) n->statuses[both->reference_table.slots[k].status & 7]++;
+    for (size_t k = 0; k < SLOTS; k++) n->statuses[both->reference_table.slots[k].status]++;
 }
 
 static int enough(const counts *n, const run_length *w) { return n->calls >= w->calls && n->steps >= w->steps; }
@@ -240,9 +243,11 @@ static void print_counts(const run_length *w, const counts *n)
     }
     print_row("all", all);
     printf("slots after pf_run, by status:");
-    for (int s = 0; s < 8; s++) printf(" %d: %" PRIu64 "%s", s, n->statuses[s], s < 7 ? "," : "\n");
-    printf("loaded where pf_fit said: %" PRIu64 " times\n", n->loaded_where_fitted);
-    printf("tables of earlier versions taken over by pf_upgrade: %" PRIu64 "\n", n->taken_over);
+    for (int s = 0; s < STATUSES; s++) printf(" %d: %" PRIu64 "%s", s, n->statuses[s], s + 1 < STATUSES ? "," : "\n");
+    printf("loaded where pf_fit said: %" PRIu64 " times; loaded with locked bytes: %" PRIu64 " times\n", n->loaded_where_fitted,
+           n->loaded_with_lock);
+    printf("tables of earlier versions taken over by pf_upgrade: %" PRIu64 " of %d bytes, %" PRIu64 " of %d\n", n->uncounted,
+           PF_UNCOUNTED_TABLE_BYTES, n->unlocked, PF_UNLOCKED_TABLE_BYTES);
     printf("tables damaged: %" PRIu64 ", of these still sound: %" PRIu64 "\n", n->damaged, n->still_sound);
     printf("memory written from outside: %" PRIu64 " times\n", n->written_from_outside);
 }
@@ -264,7 +269,7 @@ static int refusals_missing(const counts *n)
 static int statuses_missing(const counts *n)
 {
     int missing = 0;
-    for (int s = 0; s < 8 && n->calls >= FULL_RUN; s++)
+    for (int s = 0; s < STATUSES && n->calls >= FULL_RUN; s++)
         if (!n->statuses[s]) {
             printf("NOT MET: status %d\n", s);
             missing = 1;
@@ -274,8 +279,8 @@ static int statuses_missing(const counts *n)
 
 static int upgrades_missing(const counts *n)
 {
-    if (n->taken_over || n->calls < FULL_RUN) return 0;
-    printf("NOT MET: a table of an earlier version taken over\n");
+    if ((n->uncounted && n->unlocked) || n->calls < FULL_RUN) return 0;
+    printf("NOT MET: a table of each earlier version taken over\n");
     return 1;
 }
 

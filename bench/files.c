@@ -5,9 +5,13 @@
 
 enum { RECORDS = 5, MAX_WINDOW = 32768, MAX_CAPACITY = 4096 };
 
+/* how long the body of PB is in form 1 and in form 2, and the longest that is made */
+enum { FORM_1_LENGTH = 9, FORM_2_LENGTH = 11, MAX_LENGTH = 12 };
+
 /* what a file says; any value may be wrong */
 typedef struct {
-    size_t form, board, window, input, output, start, quantum;
+    size_t form, board, window, input, output, start, quantum, locked;
+    size_t parameters_length;           /* of the body of PB */
     size_t code_length, first_input_length;
     uint8_t code[MAX_WINDOW + 1], first_input[MAX_CAPACITY + 1];
 } content;
@@ -35,10 +39,20 @@ static void random_code(content *c)
     c->code_length = n;
 }
 
+/* In half of the files nothing is locked; in the others any front of the window, sometimes all of it. */
+static void random_form(content *c)
+{
+    const int locks = random_one_in(2);
+    c->form = locks ? 2 : 1;
+    c->parameters_length = locks ? FORM_2_LENGTH : FORM_1_LENGTH;
+    c->locked = !locks ? 0 : random_one_in(8) ? c->window : random_between(1, random_one_in(2) ? smaller(c->window, 40) : c->window);
+}
+
 static void random_content(content *c, size_t memory)
 {
-    c->form = c->board = 1;
+    c->board = 1;
     random_sizes(c, memory);
+    random_form(c);
     random_code(c);
     c->first_input_length = random_one_in(4) ? c->input : random_below(c->input + 1);
     random_bytes(c->first_input, c->first_input_length);
@@ -49,8 +63,8 @@ static void damage_value(content *c)
 {
     static const size_t windows[] = { 0, 1, 32767, 32768, 32769, 65535 };
     static const size_t capacities[] = { 0, 1, 4095, 4096, 4097, 65535 };
-    static const size_t numbers[] = { 0, 2, 128, 255 };
-    switch (random_below(11)) {
+    static const size_t numbers[] = { 0, 1, 2, 3, 128, 255 };
+    switch (random_below(17)) {
     case 0: c->form = RANDOM_OF(numbers); break;
     case 1: c->board = RANDOM_OF(numbers); break;
     case 2: c->window = RANDOM_OF(windows); break;
@@ -61,6 +75,10 @@ static void damage_value(content *c)
     case 7: c->window = c->code_length + random_below(3) - 1; break;
     case 8: c->input = c->first_input_length + random_below(3) - 1; break;
     case 9: c->code[c->code_length++] = (uint8_t)random_below(2); break;
+    case 10: case 11: c->locked = 0; break;
+    case 12: case 13: c->locked = c->window + random_below(2); break;
+    case 14: c->locked = RANDOM_OF(windows); break;
+    case 15: c->parameters_length = random_between(FORM_1_LENGTH - 1, MAX_LENGTH); break;
     default: if (c->code_length) c->code[c->code_length - 1] = 0; break;
     }
 }
@@ -85,11 +103,14 @@ static uint8_t *put_bytes(uint8_t *p, const uint8_t *bytes, size_t n)
     return p + n;
 }
 
+/* As many bytes of form 2's values as the body has, or a zero behind them. */
 static uint8_t *put_parameters(uint8_t *p, const content *c)
 {
-    p = put_u16(put_u16(put_u16(put_u16(p, c->window), c->input), c->output), c->start);
-    *p = (uint8_t)c->quantum;
-    return p + 1;
+    uint8_t body[MAX_LENGTH] = { 0 };
+    uint8_t *quantum = put_u16(put_u16(put_u16(put_u16(body, c->window), c->input), c->output), c->start);
+    *quantum = (uint8_t)c->quantum;
+    put_u16(quantum + 1, c->locked);
+    return put_bytes(p, body, c->parameters_length);
 }
 
 /* The five records in their order; `record_starts` is where each one starts, and where the last one ends. */
@@ -100,7 +121,7 @@ static void put_records(uint8_t *file, const content *c, size_t record_starts[RE
     *p++ = (uint8_t)c->board;
     record_starts[0] = 0;
     record_starts[1] = (size_t)(p - file);
-    p = put_parameters(put_frame(p, 'B', 9), c);
+    p = put_parameters(put_frame(p, 'B', c->parameters_length), c);
     record_starts[2] = (size_t)(p - file);
     p = put_bytes(put_frame(p, 'C', c->code_length), c->code, c->code_length);
     record_starts[3] = (size_t)(p - file);
@@ -135,7 +156,7 @@ static size_t header_or_parameter_offset(const size_t record_starts[RECORDS + 1]
 {
     if (random_one_in(4)) return random_below(record_starts[RECORDS]);
     size_t k = random_below(RECORDS), n = record_starts[k + 1] - record_starts[k];
-    return record_starts[k] + random_below(smaller(n, 13));
+    return record_starts[k] + random_below(smaller(n, 15));
 }
 
 static size_t damage_bytes(uint8_t *file, const size_t record_starts[RECORDS + 1])

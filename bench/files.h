@@ -1,4 +1,5 @@
-/* Random pattern files: most are sound, others have a value past an edge, records exchanged, bytes changed or cut. */
+/* Random pattern files of both forms: most are sound, others have a value past an edge, the other form's length, records exchanged,
+ * bytes changed or cut. */
 #ifndef FILES_H
 #define FILES_H
 #include <stddef.h>

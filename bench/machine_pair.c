@@ -17,6 +17,7 @@ machine_pair machine_pair_new(layout sizes, size_t extra_length)
     t.reference.window = sizes.window;
     t.reference.input = sizes.input;
     t.reference.output = sizes.output;
+    t.reference.locked = sizes.locked;
     t.reference.window_bytes = t.reference_partition.bytes;
     t.reference.input_bytes = t.reference.window_bytes + sizes.window;
     t.reference.output_bytes = t.reference.input_bytes + sizes.input;
@@ -61,7 +62,7 @@ void machine_pair_copy_to_product(machine_pair *t)
 uint64_t machine_pair_run(machine_pair *t, uint64_t quantum, uint64_t rounds)
 {
     pf_machine_run(t->state.bytes, t->state.length, t->partition.bytes, t->partition.length,
-                   t->layout.window, t->layout.input, t->layout.output, quantum, rounds);
+                   t->layout.window, t->layout.input, t->layout.output, t->layout.locked, quantum, rounds);
     return ref_machine_run(&t->reference, quantum * rounds);
 }
 

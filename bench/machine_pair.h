@@ -5,9 +5,9 @@
 #include "pattern_floor.h"
 #include "reference/ref2650.h"
 
-/* a partition's sizes: of its window, and of its input and output buffer */
+/* a partition's sizes: of its window, and of its input and output buffer; and how many bytes of the window are locked */
 typedef struct {
-    uint16_t window, input, output;
+    uint16_t window, input, output, locked;
 } layout;
 
 typedef struct {

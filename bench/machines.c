@@ -29,7 +29,7 @@ static int refuses(size_t length)
     guarded_buffer state = guarded_new(length), partition = guarded_new(48);
     memset(state.bytes, 1, length);
     memset(partition.bytes, 0xC0, partition.length);
-    int right = pf_machine_run(state.bytes, length, partition.bytes, partition.length, 16, 16, 16, 3, 3) == 1
+    int right = pf_machine_run(state.bytes, length, partition.bytes, partition.length, 16, 16, 16, 0, 3, 3) == 1
              && guards_intact(&state) && guards_intact(&partition);
     for (size_t i = 0; i < length; i++) right &= state.bytes[i] == 1;
     for (size_t i = 0; i < partition.length; i++) right &= partition.bytes[i] == 0xC0;

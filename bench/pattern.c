@@ -20,11 +20,12 @@ int pattern_read(const char *path, pattern *p)
     fclose(f);
     const uint8_t *parameters;
     uint16_t n;
-    if (!body_at(p, 6, "PB", &parameters, &n) || n != 9) return 0;
-    p->layout = (layout){ u16_at(parameters), u16_at(parameters + 2), u16_at(parameters + 4) };
+    /* the two bytes that form 2 has more are how many bytes are locked */
+    if (!body_at(p, 6, "PB", &parameters, &n) || (n != 9 && n != 11)) return 0;
+    p->layout = (layout){ u16_at(parameters), u16_at(parameters + 2), u16_at(parameters + 4), n == 11 ? u16_at(parameters + 9) : 0 };
     p->start = u16_at(parameters + 6);
-    return body_at(p, 19, "PC", &p->code, &p->code_length)
-        && body_at(p, 23u + p->code_length, "PI", &p->first_input, &p->first_input_length)
+    return body_at(p, 10u + n, "PC", &p->code, &p->code_length)
+        && body_at(p, 14u + n + p->code_length, "PI", &p->first_input, &p->first_input_length)
         && p->code_length <= p->layout.window && p->first_input_length <= p->layout.input;
 }
 

@@ -1,4 +1,4 @@
-/* A pattern file, form 1, as far as a test needs it. */
+/* A pattern file, of form 1 or 2, as far as a test needs it. */
 #ifndef PATTERN_H
 #define PATTERN_H
 #include "machine_pair.h"

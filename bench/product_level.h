@@ -4,5 +4,5 @@
 #include "reference/ref2650.h"
 
 /* n for U1 to Un. A program gives it to the reference before anything else: ref_level = PRODUCT_LEVEL. */
-enum { PRODUCT_LEVEL = 5 };
+enum { PRODUCT_LEVEL = 6 };
 #endif

@@ -23,11 +23,23 @@ static uint16_t random_capacity(void)
     return (uint16_t)(random_one_in(8) ? 1 + random_below(4096) : 1 + random_below(24));
 }
 
+/* Nothing in a quarter of the windows; else any front, or about the window's end. The product takes a number above the window too: then
+ * every store inside it is to a locked byte. */
+static uint16_t random_lock(uint16_t window)
+{
+    switch (random_below(8)) {
+    case 0: case 1: return 0;
+    case 2: return (uint16_t)(window - 1 + random_below(3));
+    case 3: return random_one_in(4) ? 65535 : (uint16_t)random_below(65536);
+    default: return (uint16_t)(1 + random_below(window));
+    }
+}
+
 static layout random_layout(void)
 {
     uint16_t window = random_window();
     if (window > 32768) window = 32768;
-    return (layout){ window, random_capacity(), random_capacity() };
+    return (layout){ window, random_capacity(), random_capacity(), random_lock(window) };
 }
 
 static void random_code(uint8_t *p, size_t n)
@@ -36,6 +48,23 @@ static void random_code(uint8_t *p, size_t n)
         p[i] = (uint8_t)random64();
         while (code_stops_at_once(p[i]) && !random_one_in(16)) p[i] = (uint8_t)random64();
     }
+}
+
+/* STRA to a byte on either side of the lock's end: direct, indirect, or indexed in one of three ways. */
+static void put_store(uint8_t *p, uint16_t locked)
+{
+    const uint16_t address = (uint16_t)(locked - 2 + random_below(4));
+    const uint8_t how = (uint8_t)(random_below(4) << 5 | (random_one_in(4) ? 0x80 : 0));
+    p[0] = (uint8_t)(0xCC + random_below(4));
+    p[1] = (uint8_t)((address >> 8 & 0x1F) | (random_one_in(2) ? 0 : how));
+    p[2] = (uint8_t)address;
+}
+
+/* Stores here and there: in random bytes few are near the lock's end. */
+static void put_stores(uint8_t *window, const layout *sizes)
+{
+    if (!sizes->locked || sizes->window < 3) return;
+    for (size_t n = sizes->window / 24u + 1; n; n--) put_store(window + random_below(sizes->window - 2u), sizes->locked);
 }
 
 /* anywhere, most often inside the window, often where a page ends */
@@ -50,7 +79,7 @@ static uint16_t random_address(const machine_pair *t)
 static uint8_t random_status(ref2650 *m)
 {
     if (!random_one_in(32)) return ST_RUN;
-    uint8_t status = (uint8_t)(1 + random_below(7));
+    uint8_t status = (uint8_t)(1 + random_below(ST_LOCKED));
     if (status == ST_WANTS) m->read = m->filled;
     if (status == ST_FULL) m->written = m->output;
     return status;
@@ -73,7 +102,7 @@ static void random_machine(machine_pair *t)
 }
 
 typedef struct {
-    uint64_t cases, machines, pieces, steps, stopped[8];
+    uint64_t cases, machines, pieces, steps, stopped[ST_LOCKED + 1];
     uint8_t met[256];  /* first bytes of instructions with which a piece began */
 } counts;
 
@@ -106,6 +135,7 @@ static const char *run_case(uint64_t seed, counts *n)
     machine_pair t = machine_pair_new(random_layout(), random_below(3) * random_below(40));
     if (random_one_in(4)) random_bytes(t.reference.window_bytes, t.layout.window);
     else random_code(t.reference.window_bytes, t.layout.window);
+    if (random_one_in(2)) put_stores(t.reference.window_bytes, &t.layout);
     random_bytes(t.reference.input_bytes, (size_t)t.layout.input + t.layout.output);
     unsigned machines = t.layout.window > 1000 ? 200 : 20;
     const char *what = NULL;
@@ -114,7 +144,7 @@ static const char *run_case(uint64_t seed, counts *n)
         machine_pair_copy_to_product(&t);
         what = run_pieces(&t, n);
         n->machines++;
-        n->stopped[t.reference.status & 7]++;
+        n->stopped[t.reference.status]++;
     }
     n->cases++;
     machine_pair_free(&t);
@@ -129,7 +159,7 @@ static void print_counts(uint64_t seed, const counts *n)
     printf("%" PRIu64 " windows, %" PRIu64 " machines, %" PRIu64 " pieces compared; %d of 256 codes began a piece\n",
            n->cases, n->machines, n->pieces, met);
     printf("ended with status");
-    for (int i = 1; i < 8; i++) printf(" %d: %" PRIu64 "%s", i, n->stopped[i], i < 7 ? "," : "\n");
+    for (int i = ST_RUN; i <= ST_LOCKED; i++) printf(" %d: %" PRIu64 "%s", i, n->stopped[i], i < ST_LOCKED ? "," : "\n");
 }
 
 int random_machines(uint64_t seed, uint64_t steps)

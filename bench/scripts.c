@@ -5,22 +5,26 @@
 #include <string.h>
 
 /* The kinds of entries, numbered as in make_data.py. */
-enum { NEW_SCRIPT, NEW, LEND, POKE, UNPOKE, LOAD, UNLOAD, FEED, DRAIN, RUN, REPORT, STATE, DRAIN_LENT, BACKLOG, FIT, FREE };
+enum {
+    NEW_SCRIPT, NEW, LEND, POKE, UNPOKE, LOAD, UNLOAD, FEED, DRAIN, RUN, REPORT, STATE, DRAIN_LENT, BACKLOG, FIT, FREE, READ, WRITE
+};
 
 enum {
     HEADER_LENGTH = 20,     /* the numbers before an entry's bytes */
     TABLE_NUMBERS = 3,      /* the table's own, in front of its slots: the memory's length, the free total and the widest */
     NUMBER_BYTES = 4,       /* of each of them */
     SLOTS_OFFSET = TABLE_NUMBERS * NUMBER_BYTES,    /* where slot 0 stands in a table's bytes */
-    SLOT_BYTES = 45,
-    SLOT_FIELDS = 27,       /* the numbers behind them, in a poke, are the table's own */
+    SLOT_BYTES = 47,
+    SLOT_FIELDS = 28,       /* the numbers behind them, in a poke, are the table's own */
     SLOT_NUMBERS = SLOT_FIELDS * 2,                 /* the bytes of a slot in a state */
     FREE_NUMBERS = 2 * NUMBER_BYTES,                /* the bytes in front of the slots: the free total and the widest */
     STATE_LENGTH = FREE_NUMBERS + PF_SLOTS * SLOT_NUMBERS,
     REPORT_FIELDS = 11,
     SIZE_LENGTH = 8,        /* the bytes of a fit: its size */
+    STRETCH_BYTES = 4,      /* of pf_code's and of pf_input's answer, behind the parameters that a read leaves */
+    READ_LENGTH = PF_VALUES_BYTES + 2 * STRETCH_BYTES,      /* the bytes of a read before its file */
     UNTOUCHED = 0xEE,       /* what a lent buffer holds before the call */
-    BUFFER_ROOM = 64        /* no script lends a longer buffer */
+    BUFFER_ROOM = PF_FILE_MOST          /* no script lends a longer buffer */
 };
 
 typedef struct {
@@ -71,12 +75,12 @@ typedef struct {
 
 /* The fields of a slot, and those of a report, in the scripts' order. */
 static const field slot_fields[SLOT_FIELDS] = {
-    { 0, 4 }, { 4, 2 }, { 6, 2 }, { 8, 2 }, { 10, 1 },                              /* base, sizes, quantum */
-    { 38, 1 }, { 11, 2 }, { 20, 1 }, { 21, 1 },                                     /* status, counter, PSU, PSL */
-    { 13, 1 }, { 14, 1 }, { 15, 1 }, { 16, 1 }, { 17, 1 }, { 18, 1 }, { 19, 1 },    /* registers */
-    { 22, 2 }, { 24, 2 }, { 26, 2 }, { 28, 2 },                                     /* return addresses */
-    { 30, 2 }, { 32, 2 }, { 34, 2 }, { 36, 2 },
-    { 39, 2 }, { 41, 2 }, { 43, 2 }                                                 /* filled, read, written */
+    { 0, 4 }, { 4, 2 }, { 6, 2 }, { 8, 2 }, { 12, 1 },                              /* base, sizes, quantum */
+    { 40, 1 }, { 13, 2 }, { 22, 1 }, { 23, 1 },                                     /* status, counter, PSU, PSL */
+    { 15, 1 }, { 16, 1 }, { 17, 1 }, { 18, 1 }, { 19, 1 }, { 20, 1 }, { 21, 1 },    /* registers */
+    { 24, 2 }, { 26, 2 }, { 28, 2 }, { 30, 2 },                                     /* return addresses */
+    { 32, 2 }, { 34, 2 }, { 36, 2 }, { 38, 2 },
+    { 41, 2 }, { 43, 2 }, { 45, 2 }, { 10, 2 }                                      /* filled, read, written; locked */
 };
 static const field report_fields[REPORT_FIELDS] = {
     { 0, 1 }, { 1, 2 }, { 10, 1 }, { 11, 1 },                                       /* status, counter, PSU, PSL */
@@ -184,6 +188,72 @@ static pf_answer drain_lent(unsigned slot, size_t room)
     return drained;
 }
 
+/* Both stretches are left behind the parameters. */
+static void put_stretches(pf_stretch code, pf_stretch input)
+{
+    put_number(buffer + PF_VALUES_BYTES, STRETCH_BYTES, code);
+    put_number(buffer + PF_VALUES_BYTES + STRETCH_BYTES, STRETCH_BYTES, input);
+}
+
+static pf_answer product_read(const entry *e)
+{
+    const uint8_t *file = e->bytes + READ_LENGTH;
+    size_t length = e->length - READ_LENGTH;
+    put_stretches(pf_code(file, length), pf_input(file, length));
+    return pf_read(file, length, buffer, PF_VALUES_BYTES);
+}
+
+static int reference_read(const entry *e)
+{
+    ref_parameters p;
+    int refusal = ref_read_file(e->bytes + READ_LENGTH, e->length - READ_LENGTH, &p);
+    put_stretches((pf_stretch)(p.code_at << 16 | p.code_length), (pf_stretch)(p.first_at << 16 | p.first_length));
+    if (!refusal) encode_parameters(&p, buffer);
+    return refusal;
+}
+
+/* The bytes of a write: the parameters, the buffer's check sum, a header of the image and one of the first input, and what is
+ * stored of both. */
+enum {
+    AT_CRC = PF_VALUES_BYTES, AT_IMAGE = AT_CRC + NUMBER_BYTES, SPREAD_HEADER = 5, AT_INPUT = AT_IMAGE + SPREAD_HEADER,
+    WRITE_HEADER = AT_INPUT + SPREAD_HEADER
+};
+static uint8_t image[UINT16_MAX], input[UINT16_MAX];
+static size_t image_length, input_length;
+
+/* What a header says: how many bytes there are, the one at their end, and how many of them are stored. */
+static size_t spread_length(const uint8_t *header) { return u16_at(header); }
+static size_t stored_length(const uint8_t *header) { return u16_at(header + 3); }
+
+static size_t spread(uint8_t *to, const uint8_t *header, const uint8_t *stored)
+{
+    memset(to, header[2], spread_length(header));
+    memcpy(to, stored, stored_length(header));
+    return spread_length(header);
+}
+
+/* Leaves what a write is given in `image` and `input`. */
+static void spread_given(const entry *e)
+{
+    const uint8_t *stored = e->bytes + WRITE_HEADER;
+    image_length = spread(image, e->bytes + AT_IMAGE, stored);
+    input_length = spread(input, e->bytes + AT_INPUT, stored + stored_length(e->bytes + AT_IMAGE));
+}
+
+static pf_answer product_write(const entry *e)
+{
+    spread_given(e);
+    return pf_write(e->bytes, PF_VALUES_BYTES, image, image_length, input, input_length, buffer, e->number);
+}
+
+static int reference_write(const entry *e, size_t *count)
+{
+    const uint8_t *p = e->bytes;
+    spread_given(e);
+    return ref_write_locked(u16_at(p), u16_at(p + 2), u16_at(p + 4), u16_at(p + 6), p[8], u16_at(p + 9), image, image_length,
+                            input, input_length, buffer, e->number, count);
+}
+
 static pf_answer product_call(const entry *e)
 {
     switch (e->kind) {
@@ -196,6 +266,8 @@ static pf_answer product_call(const entry *e)
     case REPORT: return pf_report(TABLE, e->slot, buffer, PF_REPORT_BYTES);
     case DRAIN_LENT: return drain_lent(e->slot, e->number);
     case BACKLOG: return pf_backlog(TABLE, buffer, e->number);
+    case READ: return product_read(e);
+    case WRITE: return product_write(e);
     default: return pf_fit(TABLE, (size_t)number_at(e->bytes, SIZE_LENGTH));
     }
 }
@@ -219,6 +291,8 @@ static int reference_refusal(const entry *e, ref_table *t, size_t *count)
         return refusal;
     case DRAIN_LENT: return ref_drain_lent(&t->slots[e->slot], MEMORY, buffer, e->number, count);
     case BACKLOG: return ref_backlog(t, buffer, e->number, count);
+    case READ: return reference_read(e);
+    case WRITE: return reference_write(e, count);
     default:
         refusal = ref_fit(t, number_at(e->bytes, SIZE_LENGTH), &start);
         *count = start;
@@ -248,19 +322,32 @@ static int is_untouched_from(size_t at)
 static int buffer_agrees(const entry *e)
 {
     if (fills_buffer(e)) return !memcmp(buffer, e->bytes, e->length) && is_untouched_from(e->length);
+    if (e->kind == READ) return !memcmp(buffer, e->bytes, READ_LENGTH) && is_untouched_from(READ_LENGTH);
+    if (e->kind == WRITE) return crc32(buffer, e->number) == u32_at(e->bytes + AT_CRC) && is_untouched_from(e->number);
     if (e->kind == REPORT && !e->refusal)
         return numbers_agree(buffer, report_fields, REPORT_FIELDS, e->bytes) && is_untouched_from(PF_REPORT_BYTES);
     return is_untouched_from(0);
 }
 
+/* Whether a write has as many bytes as its headers say, and no more of them than it spreads out. */
+static int is_whole_write(const entry *e)
+{
+    const uint8_t *of_image = e->bytes + AT_IMAGE, *of_input = e->bytes + AT_INPUT;
+    return e->length >= WRITE_HEADER && e->number <= BUFFER_ROOM
+        && e->length == WRITE_HEADER + stored_length(of_image) + stored_length(of_input)
+        && stored_length(of_image) <= spread_length(of_image) && stored_length(of_input) <= spread_length(of_input);
+}
+
 /* Whether there is such a call, and room for what it is lent. */
 static int can_be_made(const entry *e)
 {
-    if (e->kind > FIT || lent_length > sizeof memory) return 0;
+    if (e->kind > WRITE || lent_length > sizeof memory) return 0;
     if (e->kind == DRAIN_LENT && e->slot >= PF_SLOTS) return 0;
     if (e->kind == RUN) return e->number <= UINT16_MAX;
     if (e->kind == REPORT) return e->length == REPORT_FIELDS * 2;
     if (e->kind == FIT) return e->length == SIZE_LENGTH;
+    if (e->kind == READ) return e->length >= READ_LENGTH;
+    if (e->kind == WRITE) return is_whole_write(e);
     return !fills_buffer(e) || (e->number <= BUFFER_ROOM && e->length == e->number);
 }
 

@@ -51,7 +51,7 @@ static void time_alone(row *r, unsigned quantum, timing *best)
         for (uint64_t k = 0; k < rounds; k++) ref_machine_run(&t.reference, quantum);
         double middle = seconds_now();
         pf_machine_run(t.state.bytes, t.state.length, t.partition.bytes, t.partition.length,
-                       t.layout.window, t.layout.input, t.layout.output, quantum, rounds);
+                       t.layout.window, t.layout.input, t.layout.output, t.layout.locked, quantum, rounds);
         keep_best(best, start, middle, seconds_now());
         r->different = machine_pair_difference(&t);
     }

@@ -4,7 +4,7 @@
 
 enum {
     DATA_MOST = 1 << 20,
-    HEADER_LENGTH = 26,     /* the length of the numbers before the name */
+    HEADER_LENGTH = 28,     /* the length of the numbers before the name */
     REPEATED = 32768        /* added to the count in the head of a piece that repeats one byte */
 };
 
@@ -20,8 +20,8 @@ static stored_run run_at(const uint8_t *p)
         .name = p + HEADER_LENGTH, .name_length = u16_at(p), .text_length = u16_at(p + 2), .packed_length = u16_at(p + 4),
         .refusal = u16_at(p + 6),
         .window = u16_at(p + 8), .input = u16_at(p + 10), .output = u16_at(p + 12),
-        .start = u16_at(p + 14), .quantum = u16_at(p + 16),
-        .code_at = u16_at(p + 18), .code_length = u16_at(p + 20), .input_at = u16_at(p + 22), .input_length = u16_at(p + 24),
+        .start = u16_at(p + 14), .quantum = u16_at(p + 16), .locked = u16_at(p + 18),
+        .code_at = u16_at(p + 20), .code_length = u16_at(p + 22), .input_at = u16_at(p + 24), .input_length = u16_at(p + 26),
     };
     return r;
 }

@@ -10,7 +10,7 @@ typedef struct {
     const uint8_t *name, *text, *packed;
     size_t name_length, text_length, packed_length;
     unsigned refusal;           /* the reader's, 0 for none; if there is one, the numbers behind it are 0 */
-    uint16_t window, input, output, start, quantum;
+    uint16_t window, input, output, start, quantum, locked;
     uint16_t code_at, code_length, input_at, input_length;      /* in the file */
 } stored_run;
 

@@ -45,7 +45,7 @@ static uint16_t random_address(const ref_slot *s)
 /* statuses 3 and 4 as a sound table has them: nothing unread, output full */
 static void random_status(ref_slot *s)
 {
-    s->status = (uint8_t)(random_one_in(3) ? random_between(1, 7) : ST_RUN);
+    s->status = (uint8_t)(random_one_in(3) ? random_between(ST_RUN, ST_LOCKED) : ST_RUN);
     if (s->status == ST_WANTS) s->read = s->filled;
     if (s->status == ST_FULL) s->written = s->output;
 }
@@ -72,6 +72,14 @@ static uint16_t random_capacity(size_t room)
     return (uint16_t)random_between(1, random_one_in(8) ? most : smaller(most, 24));
 }
 
+/* nothing in half of the windows; else any front, often a short one, sometimes the whole window */
+static uint32_t random_lock(const ref_slot *s)
+{
+    if (random_one_in(2)) return 0;
+    if (random_one_in(8)) return s->window;
+    return (uint32_t)random_between(1, random_one_in(2) ? smaller(s->window, 40) : s->window);
+}
+
 /* A partition from a location on, of so many bytes at most, and of three at least. */
 static void random_partition_at(ref_slot *s, size_t location, size_t room)
 {
@@ -80,6 +88,7 @@ static void random_partition_at(ref_slot *s, size_t location, size_t room)
     s->input = random_capacity(all - 2);
     s->output = random_capacity(all - 1 - s->input);
     s->window = (uint32_t)smaller(all - s->input - s->output, MAX_WINDOW);
+    s->locked = random_lock(s);
     s->quantum = (uint8_t)(random_one_in(4) ? 255 : random_between(1, 20));
     random_state(s);
 }
@@ -217,7 +226,7 @@ static uint32_t location_beside(const ref_slot *s, const ref_slot *other)
 /* a field set to an edge of its own */
 static void set_edge(ref_table *table, ref_slot *s)
 {
-    switch (random_below(14)) {
+    switch (random_below(15)) {
     case 0: s->base = edge32(table, s); break;
     case 1: s->window = edge_or_next(s->window); break;
     case 2: s->input = edge_or_next(s->input); break;
@@ -227,10 +236,11 @@ static void set_edge(ref_table *table, ref_slot *s)
     case 6: s->ras[random_below(8)] = edge16(); break;
     case 7: s->psu ^= (uint8_t)(1u << random_below(8)); break;
     case 8: s->psl = edge8(); break;
-    case 9: s->status = random_one_in(4) ? edge8() : (uint8_t)random_below(9); break;
+    case 9: s->status = random_one_in(4) ? edge8() : (uint8_t)random_below(10); break;
     case 10: s->filled = edge16(); break;
     case 11: s->read = edge16(); break;
     case 12: s->written = edge16(); break;
+    case 13: s->locked = edge_or_next(s->locked); break;
     default: table->memory_length = edge32(table, s); break;
     }
 }
@@ -238,7 +248,7 @@ static void set_edge(ref_table *table, ref_slot *s)
 /* a field set to an edge that another field gives */
 static void set_relation(ref_table *table, ref_slot *s)
 {
-    switch (random_below(9)) {
+    switch (random_below(12)) {
     case 0: s->read = (uint16_t)(s->filled + random_below(2)); break;
     case 1: s->filled = (uint16_t)(s->input + random_below(2)); break;
     case 2: s->written = (uint16_t)(s->output + random_below(2)); break;
@@ -247,6 +257,9 @@ static void set_relation(ref_table *table, ref_slot *s)
     case 5: s->status = ST_WANTS; break;
     case 6: s->status = ST_FULL; break;
     case 7: s->base = location_beside(s, &table->slots[random_below(SLOTS)]); break;
+    case 8: s->locked = (s->window + (uint32_t)random_below(2)) & 0xFFFF; break;
+    case 9: s->window = (s->locked - (uint32_t)random_below(2)) & 0xFFFF; break;
+    case 10: s->status = ST_LOCKED; break;
     default:
         s->window = (uint32_t)(table->memory_length - s->base - s->input - s->output + random_below(2)) & 0xFFFF;
         break;

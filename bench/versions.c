@@ -60,6 +60,7 @@ static uint64_t steps_of(const stored_run *r)
     m.window = r->window;
     m.input = r->input;
     m.output = r->output;
+    m.locked = r->locked;
     m.window_bytes = partition;
     m.input_bytes = partition + r->window;
     m.output_bytes = partition + r->window + r->input;

@@ -4,19 +4,26 @@
  *
  * Each is loaded where it fits, and both run by turns. The second is fed a text, a few bytes whenever it wants input; what each puts out
  * is printed in hexadecimal, the one with more bytes first. At the end the first is unloaded. How much memory is free is printed after
- * the loads and after that. */
+ * the loads and after that; and of each pattern that locks the front of its window, how many bytes. */
 #include <pattern_floor.h>
 #include <stdio.h>
 #include <string.h>
 
 static uint8_t table[PF_TABLE_BYTES], memory[8192];
 
-/* What a pattern takes of the memory: window + input + output, which are the first three of its parameters, two bytes each. */
+/* A number of two bytes in a file's parameters: 0 window, 2 input, 4 output, 9 how many bytes are locked. */
+static size_t parameter_at(const uint8_t *parameters, size_t at) { return (size_t)parameters[at] << 8 | parameters[at + 1]; }
+
+/* What a pattern takes of the memory. */
 static size_t partition_size(const uint8_t *parameters)
 {
-    size_t size = 0;
-    for (int i = 0; i < 6; i += 2) size += (size_t)parameters[i] << 8 | parameters[i + 1];
-    return size;
+    return parameter_at(parameters, 0) + parameter_at(parameters, 2) + parameter_at(parameters, 4);
+}
+
+/* The pattern cannot store in these bytes: at status 8 it has tried, and is unloaded as at any other fault. */
+static void show_locked(size_t slot, size_t locked)
+{
+    if (locked) printf("slot %u: the first %u bytes of its window are locked\n", (unsigned)slot, (unsigned)locked);
 }
 
 static int load(const char *path, size_t slot)
@@ -34,6 +41,7 @@ static int load(const char *path, size_t slot)
     if (!pf_refusal(answer)) answer = pf_fit(table, sizeof table, partition_size(parameters));
     if (!pf_refusal(answer)) answer = pf_load(table, sizeof table, memory, sizeof memory, slot, pf_count(answer), file, length);
     if (pf_refusal(answer)) fprintf(stderr, "%s: refused by %u\n", path, pf_refusal(answer));
+    else show_locked(slot, parameter_at(parameters, 9));
     return pf_refusal(answer) == 0;
 }
 

@@ -39,10 +39,11 @@ enum {
     PF_TAKEN = 4,           /* the slot holds a pattern */
     PF_EMPTY = 5,           /* the slot holds none */
     PF_FRAME = 6,           /* file: a record's mark, length or order; too short; bytes after its end */
-    PF_FORM = 7,            /* file: its form is not 1 */
+    PF_FORM = 7,            /* file: its form is not 1 or 2 */
     PF_BOARD = 8,           /* file: its board is not 1 */
     PF_VALUES = 9,          /* file: a value is out of range: window 1 to 32768, input and output 1 to 4096, start below the window,
-                               quantum 1 to 255; for writing also: the image is not of the window's size */
+                               quantum 1 to 255, in form 2 locked bytes 1 to the window; for writing also: more locked bytes than the
+                               window has, or an image that is not of its size */
     PF_CODE = 10,           /* file: code longer than the window, or ending in a zero byte */
     PF_INPUT = 11,          /* file: first input longer than the input's capacity */
     PF_PAST_END = 12,       /* the pattern's partition would end past the memory */
@@ -54,7 +55,7 @@ enum {
     PF_NO_EXTENT = 18       /* no free extent of the memory holds that size */
 };
 
-/* The status of a slot: the first byte of a report. At 3 to 7 the counter is still at the instruction, of which nothing was carried out. */
+/* The status of a slot: the first byte of a report. At 3 to 8 the counter is still at the instruction, of which nothing was carried out. */
 enum {
     PF_STATUS_EMPTY = 0,        /* in a table; pf_report refuses such a slot by 5 */
     PF_STATUS_RUNNING = 1,
@@ -63,19 +64,21 @@ enum {
     PF_STATUS_OUTPUT_FULL = 4,  /* WRTD with a full output: pf_drain lets it go on */
     PF_STATUS_UNKNOWN = 5,      /* a code that is no instruction: 10h, 11h, 90h, 91h, B6h, B7h, C4h to C7h */
     PF_STATUS_OUTSIDE = 6,      /* an address outside of the window */
-    PF_STATUS_PORT = 7          /* REDC, WRTC, REDE or WRTE */
+    PF_STATUS_PORT = 7,         /* REDC, WRTC, REDE or WRTE */
+    PF_STATUS_LOCKED = 8        /* STRR or STRA to a byte that the pattern locks: one of the first of its window */
 };
 
 enum {
     PF_SLOTS = 8,
-    PF_TABLE_BYTES = 372,
-    PF_UNCOUNTED_TABLE_BYTES = 364,   /* a table of the versions that did not keep its free bytes: pf_upgrade takes it */
+    PF_TABLE_BYTES = 388,
+    PF_UNLOCKED_TABLE_BYTES = 372,    /* tables of earlier versions, which pf_upgrade takes: of those that locked nothing, */
+    PF_UNCOUNTED_TABLE_BYTES = 364,   /* and of those that did not keep the free bytes either */
     PF_REPORT_BYTES = 12,
     PF_BACKLOG_BYTES = 26,      /* the longest backlog: a line of three bytes for each of eight slots, and the total */
-    PF_VALUES_BYTES = 9,
+    PF_VALUES_BYTES = 11,
     PF_STATE_BYTES = 34,
     PF_FILE_LEAST = 31,         /* the shortest and the longest pattern file */
-    PF_FILE_MOST = 36895,
+    PF_FILE_MOST = 36897,
     PF_MEMORY_MOST = 65536,
     PF_PARTITION_MOST = 40960,  /* the largest partition: a window of 32768, input and output of 4096 each */
     PF_LISTING_MEMORY = 40960,
@@ -110,6 +113,8 @@ pf_answer pf_new(uint8_t *table, size_t table_length, size_t memory_length);
 
 /* Loads a pattern file into an empty slot. Its partition starts at `location` and takes window + input + output bytes, all of which are
  * written: the code, the first input, and zeros. The file is not needed afterwards. pf_fit tells a location where it fits.
+ * If the pattern locks the first bytes of its window, it can read and run them, and never change them: an instruction that would store
+ * there stops with status 8. The host's calls are not bound by the lock.
  * Refused: 1, 2, 3, 4, the reader's 6 to 11, 12, 13. */
 pf_answer pf_load(uint8_t *table, size_t table_length, uint8_t *memory, size_t memory_length,
                   size_t slot, size_t location, const uint8_t *file, size_t file_length);
@@ -162,18 +167,21 @@ pf_answer pf_backlog(const uint8_t *table, size_t table_length, uint8_t *buffer,
 pf_answer pf_fit(const uint8_t *table, size_t table_length, size_t size);
 
 /* Takes over a table as an earlier version kept it: writes it to `table` in the form of this version. The length of `old`, as it was stored,
- * tells its version: PF_UNCOUNTED_TABLE_BYTES, or PF_TABLE_BYTES for a table of this version, which is copied. `old` is only read, and must not
- * overlap `table`: no table is upgraded in place. What `table` held before does not matter.
- * The slots are the same, and each pattern's machine goes on where it was. What the old table did not keep is worked out. The memory is not
- * needed: lend it with the new table as it was lent with the old one.
+ * tells its version: PF_UNCOUNTED_TABLE_BYTES, PF_UNLOCKED_TABLE_BYTES, or PF_TABLE_BYTES for a table of this version, which is copied. `old` is
+ * only read, and must not overlap `table`: no table is upgraded in place. What `table` held before does not matter.
+ * The slots are the same, and each pattern's machine goes on where it was. What the old table did not keep is worked out: the free bytes are
+ * counted, and nothing is locked. The memory is not needed: lend it with the new table as it was lent with the old one.
  * Refused: 1 (`old` is of another length, or holds no table that is sound by the rules of its version), 16 (`table` is not of PF_TABLE_BYTES:
  * a longer one is refused too). */
 pf_answer pf_upgrade(const uint8_t *old, size_t old_length, uint8_t *table, size_t table_length);
 
 /* ---- Pattern files --------------------------------------------------------------------------------------------------- */
 
+/* A file has form 2 if its pattern locks bytes, and form 1 if it locks none. Every call that takes a file takes both. */
+
 /* Reads a file's parameters into the first PF_VALUES_BYTES bytes of `parameters`; the rest is left:
- *   0 window size, 2 input capacity, 4 output capacity, 6 start address, two bytes each, high byte first; 8 quantum.
+ *   0 window size, 2 input capacity, 4 output capacity, 6 start address, two bytes each, high byte first; 8 quantum, one byte;
+ *   9 how many bytes are locked, from the window's first on: two bytes, 0 in form 1.
  * Refused: 6 to 11, 16. */
 pf_answer pf_read(const uint8_t *file, size_t file_length, uint8_t *parameters, size_t parameters_length);
 
@@ -187,9 +195,9 @@ pf_stretch pf_code(const uint8_t *file, size_t file_length);
 pf_stretch pf_input(const uint8_t *file, size_t file_length);
 
 /* Writes the file of a pattern to the front of `buffer`; pf_count() is the file's length. `parameters` are PF_VALUES_BYTES bytes, as of pf_read;
- * `image` is the whole window, of which the file leaves out the zeros at its end; `input` is the first input, or nothing. Each pattern has exactly one
- * file; a buffer of PF_FILE_MOST bytes is always long enough.
- * Refused: 9 (also if `parameters` is of another length, or `image` not of the window's size), 11, 16. */
+ * `image` is the whole window, of which the file leaves out the zeros at its end; `input` is the first input, or nothing. The file has form 1 exactly if 0
+ * bytes are locked. So each pattern has exactly one file; a buffer of PF_FILE_MOST bytes is always long enough.
+ * Refused: 9 (also if more bytes are locked than the window has, `parameters` is of another length, or `image` not of the window's size), 11, 16. */
 pf_answer pf_write(const uint8_t *parameters, size_t parameters_length, const uint8_t *image, size_t image_length,
                    const uint8_t *input, size_t input_length, uint8_t *buffer, size_t buffer_length);
 
@@ -208,11 +216,11 @@ pf_answer pf_listing(const uint8_t *file, size_t file_length, uint8_t *memory, s
 /* ---- One machine alone ----------------------------------------------------------------------------------------------- */
 
 /* Runs one 2650 outside of any table: `rounds` times `quantum` instructions, or fewer if it stops. `state` is a machine as the PF_STATE_BYTES bytes that
- * it has in a table; `partition` is its window, input and output, of these sizes. It takes any state, a sound one or not, and cuts sizes that the
- * partition is too short for. Answers 0, or 1 if the state is not of PF_STATE_BYTES. For measuring and for tests: it has an archive of its own,
- * libmachine.a, and no host needs it. */
+ * it has in a table; `partition` is its window, input and output, of these sizes, with the first `locked` bytes of the window locked. It takes any state, a
+ * sound one or not, and any number of locked bytes, and cuts sizes that the partition is too short for. Answers 0, or 1 if the state is not of
+ * PF_STATE_BYTES. For measuring and for tests: it has an archive of its own, libmachine.a, and no host needs it. */
 uint8_t pf_machine_run(uint8_t *state, size_t state_length, uint8_t *partition, size_t partition_length,
-                       uint16_t window, uint16_t input, uint16_t output, uint64_t quantum, uint64_t rounds);
+                       uint16_t window, uint16_t input, uint16_t output, uint16_t locked, uint64_t quantum, uint64_t rounds);
 
 #ifdef __cplusplus
 }

@@ -1,13 +1,14 @@
 #!/usr/bin/env python3
 """Makes crates/scripts/data/scripts.bin of scripts of calls with what each call must answer.
 
-usage: make_data.py scripts.bin FILE..    (floor_u5.txt, u1.txt, u2.txt, u4.txt, u5.txt and edges.txt)
+usage: make_data.py scripts.bin FILE..    (floor_u6.txt, u1.txt, u2.txt, u4.txt, u5.txt, u6.txt and edges.txt)
 
-The scripts of floor_u5.txt came with document 01, and have the answers that they get since document 02's request U5. Those of
-u1.txt, u2.txt, u4.txt and u5.txt came with the requests. These five are not in this repository, and have the documents' words;
-edges.txt has the glossary's. Lines of u1.txt, u2.txt and u4.txt that a later request changed, or that must now follow one
-of them, are taken from later_answers.txt, beside this file. A vector of a bench run (V, and = for each line of its text) is left
-out. The lines of a script:
+The scripts of floor_u6.txt came with document 01, and have the answers that they get since document 02's request U6. Those of
+u1.txt, u2.txt, u4.txt, u5.txt and u6.txt came with the requests. These six are not in this repository, and have the documents'
+words; edges.txt has the glossary's. Lines of u1.txt to u6.txt that a later request changed, that must now follow one of them, or
+that the product can't be asked, are taken from later_answers.txt, beside this file. A vector of a bench run (V, and = for each
+line of its text) is left out, and so is a read of a long file that such a vector has: crate vectors reads it. The lines of a
+script:
 
     S n                         a new script: table and memory all zero
     new LENGTH => n             the table handed back replaces the table, also when refused
@@ -24,10 +25,14 @@ out. The lines of a script:
     report SLOT => n [status counter psu psl, and the seven registers]
     backlog LENGTH => n FILLED HEX      the buffer starts all EE; HEX is all of it afterwards
     fit SIZE => n START         any size below 2^64; the start is 0 when refused
+    read HEX => n [window input output start quantum locked CODE INPUT]     CODE and INPUT are the bodies of PC and PI
+    write window input output start quantum locked IMAGE INPUT LENGTH => n FILLED HEX       the buffer starts all EE; HEX is all
+                                of it afterwards
     free => FREE WIDEST         the two numbers about free bytes that the table stores; no call
     state => CRC FREE WIDEST    the CRC-32 of 65,536 bytes of memory, the same two numbers, and then a line for each loaded slot;
                                 the files from before U5 do not have the two numbers
-    st k: FIELDS                its fields in the order of FIELDS, in decimal
+    st k: FIELDS                its fields in the order of FIELDS, in decimal; the files from before U6 do not have the last one,
+                                `locked`, which is 0 there
 
 A poke without an unpoke stays.
 
@@ -37,25 +42,36 @@ bytes are the size: eight of them, high byte first. Of a free line the number is
 four of them. Of a state the number is the CRC, and the bytes are the free total and the widest, four bytes each, and the fields
 of the eight slots, two bytes each. The flag is 1 for a poke of the same group as the poke before it, and for a state that has
 the two numbers: without it they are not compared.
+
+The bytes of a read are the 11 bytes of parameters, all EE for a file that is refused; where the bodies of PC and PI start in the
+file and how long each is, in four numbers of two bytes, all zero for a file that is refused; and the file. Of a write the number is
+the buffer's length, and the bytes are the 11 bytes of parameters; the CRC-32 of the buffer afterwards, four bytes; of the image and
+then of the input how long it is (two bytes), the byte at its end (one) and how many of its bytes are stored (two): those before
+the run of that byte; and the stored bytes of both.
 """
 import os
 import sys
+import zlib
 
-NEW_SCRIPT, NEW, LEND, POKE, UNPOKE, LOAD, UNLOAD, FEED, DRAIN, RUN, REPORT, STATE, DRAIN_LENT, BACKLOG, FIT, FREE = \
-    range(16)
+NEW_SCRIPT, NEW, LEND, POKE, UNPOKE, LOAD, UNLOAD, FEED, DRAIN, RUN, REPORT, STATE, DRAIN_LENT, BACKLOG, FIT, FREE, READ, WRITE = \
+    range(18)
 FIELDS = ("base window input output quantum status pc psu psl r0 b0 b1 b2 b3 b4 b5 "
-          "ras0 ras1 ras2 ras3 ras4 ras5 ras6 ras7 filled read written length free widest").split()
-SLOT_FIELDS = 27
-# files whose states have no numbers about free bytes, and how many bytes the programs take
+          "ras0 ras1 ras2 ras3 ras4 ras5 ras6 ras7 filled read written locked length free widest").split()
+SLOT_FIELDS = 28
+# files whose states have no numbers about free bytes, and those whose slots have no lock
 BEFORE_U5 = ("u1.txt", "u2.txt", "u4.txt")
-MOST = 524287
+BEFORE_U6 = (*BEFORE_U5, "u5.txt")
+# how many bytes the programs take, and the longest file that a read has here
+MOST = 655359
+LONG_FILE = 4096
 # how many bytes a field has where it is not two
 FIELD_BYTES = {**dict.fromkeys("base length free widest".split(), 4),
                **dict.fromkeys("quantum status psu psl r0 b0 b1 b2 b3 b4 b5".split(), 1)}
 
 # what the documents' words for calls and fields are here
 WORDS = {"fresh": "new", "mount": "load", "lift": "unload", "collect": "drain", "pass": "run", "round": "backlog", "find": "fit",
-         "bay": "base", "icap": "input", "ocap": "output", "stint": "quantum"}
+         "bay": "base", "icap": "input", "ocap": "output", "stint": "quantum", "lock": "locked", "readfile": "read",
+         "writefile": "write"}
 
 
 def piece(text):
@@ -79,6 +95,41 @@ def entry(kind, line, slot=0, refusal=0, number=0, field=0, data=b"", flag=False
     return u16s([kind, line, slot, refusal]) + u32s([number]) + u16s([field, len(data), flag, 0]) + data
 
 
+def parameters(values):
+    """window, input, output, start, quantum and locked, as 11 bytes"""
+    window, given, output, start, quantum, locked = [int(n) for n in values]
+    return u16s([window, given, output, start]) + bytes([quantum]) + u16s([locked])
+
+
+def stretches(file, code, first):
+    """Where the bodies of PC and PI start in the file, and their lengths: PC stands behind PV, of 6 bytes, and PB."""
+    code_at = 6 + 4 + int.from_bytes(file[8:10], "big") + 4
+    first_at = code_at + len(code) + 4
+    assert file[code_at:code_at + len(code)] == code and file[first_at:first_at + len(first)] == first
+    return u16s([code_at, len(code), first_at, len(first)])
+
+
+def read_entry(line, file, refusal, wanted):
+    if refusal:
+        assert not wanted, f"line {line}: a refused read answers nothing else"
+        return entry(READ, line, 0, refusal, 0, 0, b"\xEE" * 11 + bytes(8) + file)
+    return entry(READ, line, 0, 0, 0, 0, parameters(wanted[:6]) + stretches(file, raw(wanted[6]), raw(wanted[7])) + file)
+
+
+def shortened(run):
+    """Length, last byte and how many bytes are stored; and these, without the run of the last byte at the end."""
+    stored = run.rstrip(run[-1:]) if run else b""
+    return u16s([len(run)]) + (run[-1:] or b"\0") + u16s([len(stored)]), stored
+
+
+def write_entry(line, args, refusal, wanted):
+    buffer = raw(wanted[1])
+    assert len(buffer) == int(args[8]), f"line {line}: a buffer of {args[8]} bytes, and {len(buffer)} afterwards"
+    (image, stored), (first, stored_first) = shortened(raw(args[6])), shortened(raw(args[7]))
+    data = parameters(args[:6]) + u32s([zlib.crc32(buffer)]) + image + first + stored + stored_first
+    return entry(WRITE, line, 0, refusal, len(buffer), int(wanted[0]), data)
+
+
 def call(line, given, wanted):
     """The entry of one line with an answer: the words before the arrow and those behind it."""
     name, args = given[0], given[1:]
@@ -91,6 +142,10 @@ def call(line, given, wanted):
         return entry(BACKLOG, line, 0, refusal, int(args[0]), int(wanted[1]), raw(wanted[2]))
     if name == "fit":
         return entry(FIT, line, 0, refusal, 0, int(wanted[1]), int(args[0]).to_bytes(8, "big"))
+    if name == "read":
+        return read_entry(line, raw(args[0]), refusal, wanted[1:])
+    if name == "write":
+        return write_entry(line, args, refusal, wanted[1:])
     slot = int(args[0])
     if name == "load":
         return entry(LOAD, line, slot, refusal, int(args[1]), 0, raw(args[2]))
@@ -120,6 +175,13 @@ def state_entry(path, line, wanted, slots):
     return entry(STATE, line, 0, 0, int(wanted[0], 16), 0, data, flag=bool(numbers))
 
 
+def slot_numbers(path, line, words):
+    """The fields of a slot; a file from before U6 has no lock."""
+    numbers = [int(n) for n in words] + [0] * (os.path.basename(path) in BEFORE_U6)
+    assert len(numbers) == SLOT_FIELDS, f"{path}, line {line}: {len(words)} fields"
+    return numbers
+
+
 def later_answers():
     """Of a file and a line of it: what stands there now, and what stands behind it now."""
     changed, added = {}, {}
@@ -127,12 +189,12 @@ def later_answers():
         if row.strip() and not row.startswith("#"):
             at, text = row.strip().split(": ", 1)
             name, line, *behind = at.split()
-            assert behind in ([], ["+"]), f"later_answers.txt, {at}: only a + may follow the line's number"
-            if behind:
+            assert behind in ([], ["+"], ["="]), f"later_answers.txt, {at}: only + or = may follow the line's number"
+            if behind == ["+"]:
                 added.setdefault((name, int(line)), []).append(text)
             else:
                 assert (name, int(line)) not in changed, f"later_answers.txt has {at} twice"
-                changed[name, int(line)] = text
+                changed[name, int(line)] = behind == ["="], text
     return changed, added
 
 
@@ -141,14 +203,31 @@ def asked(text):
     return text.split(":" if text.startswith("st ") else "=>")[0]
 
 
+def answered(text):
+    """What a line with a call answers: nothing in the line of a poke."""
+    return text.partition("=>")[2]
+
+
+def is_long_read(text, vectors):
+    """Whether the line reads a file that is too long for scripts.bin. A vector of a bench run has the same file."""
+    words = text.split()
+    if words[:1] != ["readfile"] or len(raw(words[1])) <= LONG_FILE:
+        return False
+    assert words[1] in vectors, f"a long file is read that no bench run has: {text[:60]}"
+    return True
+
+
 def lines(path, changed, added):
-    """Number and text of each line, comments and vectors of bench runs left out, and an empty one at the end. An added line has
-    the number of the line that it stands behind."""
+    """Number and text of each line, comments, vectors of bench runs and reads of their long files left out, and an empty one at the
+    end. An added line has the number of the line that it stands behind."""
+    vectors = {text.split("|")[-1].strip() for text in open(path) if text.startswith("V ")}
     for line, text in enumerate(open(path), 1):
         text = "" if text.startswith(("V ", "= ")) else text.split("#")[0].strip()
-        now = changed.pop((os.path.basename(path), line), None)
+        text = "" if is_long_read(text, vectors) else text
+        other, now = changed.pop((os.path.basename(path), line), (False, None))
         if now is not None:
-            assert asked(now) == asked(text), f"{path}, line {line}: later_answers.txt asks something else"
+            assert (asked(now) != asked(text)) == other, f"{path}, line {line}: later_answers.txt asks something else, or the same after ="
+            assert (answered(now) == answered(text)) == other or text.startswith("st "), f"{path}, line {line}: the answer"
             assert now != text, f"{path}, line {line}: later_answers.txt has the same answer"
             text = now
         yield line, text
@@ -184,9 +263,7 @@ def entries(path, changed, added):
         elif given[0] == "state":
             state = (line, given[2:], [[0] * SLOT_FIELDS for _ in range(8)])
         elif given[0] == "st":
-            numbers = [int(n) for n in given[2:]]
-            assert len(numbers) == SLOT_FIELDS
-            state[2][int(given[1].rstrip(":"))] = numbers
+            state[2][int(given[1].rstrip(":"))] = slot_numbers(path, line, given[2:])
         else:
             arrow = given.index("=>")
             out.append(call(line, given[:arrow], given[arrow + 1:]))

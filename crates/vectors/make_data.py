@@ -2,24 +2,24 @@
 """Makes crates/vectors/data/vectors.bin of bench runs: pattern files, what the reader must answer for each, and what its bench
 run must print.
 
-usage: make_data.py vectors.bin FILE..    (bench.txt and u4.txt)
+usage: make_data.py vectors.bin FILE..    (bench.txt, u4.txt and u6.txt)
 
-bench.txt came with document 01, u4.txt with document 02's request U4. They are not in this repository. A vector of a later file
-that is called `base vector, now other: NAME` takes the place of NAME: the request changed what it prints.
+bench.txt came with document 01, u4.txt and u6.txt with document 02's requests U4 and U6. They are not in this repository, and
+u6.txt's scripts of calls are left out: crate scripts has them. A vector of a later file that is called `base vector, now other: NAME` takes the place of NAME: the request changed what it prints.
 
 The text of a bench run is the one of these files. What the reader has to answer is worked out here, by a reader of pattern files
-of form 1 that shares nothing with the product, and held against the `refused N` lines. (The bench run refuses a file of more
-than 36,895 bytes by 6 before it is read, so there the two may differ.)
+of both forms that shares nothing with the product, and held against the `refused N` lines. (The bench run refuses a file of more
+than 36,897 bytes by 6 before it is read, so there the two may differ.)
 
-An entry of vectors.bin: thirteen numbers of two bytes, high byte first; then the name, the text and the packed file.
+An entry of vectors.bin: fourteen numbers of two bytes, high byte first; then the name, the text and the packed file.
 
     0   the length of the name
     2   the length of the text
     4   the length of the packed file
     6   the number of the reader's refusal, 0 for none; if there is one, the numbers behind it are 0
-    8   window, input, output, start and quantum
-    18  where the body of PC starts in the file, and its length
-    22  where the body of PI starts in the file, and its length
+    8   window, input, output, start, quantum, and how many bytes are locked, 0 in form 1
+    20  where the body of PC starts in the file, and its length
+    24  where the body of PI starts in the file, and its length
 
 A packed file is a list of pieces. A piece is a count of two bytes and that many bytes; or 32,768 and a count, and one byte to
 repeat. A count is below 32,768.
@@ -27,7 +27,8 @@ repeat. A count is below 32,768.
 import itertools
 import sys
 
-MAX_FILE = 36895
+MAX_FILE = 36897
+PB_LENGTHS = {1: 9, 2: 11}  # of the body of PB, by form
 REPEATED_FLAG = 32768  # added to the count in the head of a piece that repeats one byte
 MIN_RUN = 6  # a run of fewer bytes costs less among its neighbours
 NOW_OTHER = "base vector, now other: "
@@ -82,9 +83,12 @@ class Refused(Exception):
 
 
 def records(file):
-    """The frames in order, each checked when it is asked for: place and length of its body."""
+    """The frames in order, each checked when it is asked for: place and length of its body. The form is known once PV was seen, and
+    is 1 or 2 if PB is asked for."""
     at = 0
-    for mark, fixed in (b"PV", 2), (b"PB", 9), (b"PC", None), (b"PI", None), (b"PE", 0):
+    for mark, fixed in (b"PV", 2), (b"PB", "by form"), (b"PC", None), (b"PI", None), (b"PE", 0):
+        if mark == b"PB":
+            fixed = PB_LENGTHS[file[4]]
         if file[at:at + 2] != mark or len(file) < at + 4:
             raise Refused(6)
         size = int.from_bytes(file[at + 2:at + 4], "big")
@@ -97,17 +101,20 @@ def records(file):
 
 
 def read(file):
-    """window, input, output, start, quantum, and place and length of both bodies"""
+    """window, input, output, start, quantum, locked, and place and length of both bodies"""
     walk = records(file)
     at, _ = next(walk)
-    if file[at] != 1:
+    if file[at] not in PB_LENGTHS:
         raise Refused(7)
     if file[at + 1] != 1:
         raise Refused(8)
-    at, _ = next(walk)
+    at, size = next(walk)
     window, given, output, start = [int.from_bytes(file[at + i:at + i + 2], "big") for i in (0, 2, 4, 6)]
     quantum = file[at + 8]
+    locked = int.from_bytes(file[at + 9:at + size], "big")
     if not (1 <= window <= 32768 and 1 <= given <= 4096 and 1 <= output <= 4096 and start < window and quantum > 0):
+        raise Refused(9)
+    if size == PB_LENGTHS[2] and not 1 <= locked <= window:
         raise Refused(9)
     code = next(walk)
     if code[1] > window or code[1] and file[sum(code) - 1] == 0:
@@ -117,7 +124,7 @@ def read(file):
         raise Refused(11)
     for _ in walk:
         pass
-    return [window, given, output, start, quantum, *code, *first]
+    return [window, given, output, start, quantum, locked, *code, *first]
 
 
 def answered(file):
@@ -125,7 +132,7 @@ def answered(file):
     try:
         return [0, *read(file)]
     except Refused as refusal:
-        return [refusal.args[0]] + [0] * 9
+        return [refusal.args[0]] + [0] * 10
 
 
 def counted(run):

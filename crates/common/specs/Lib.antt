@@ -12,6 +12,7 @@ pub mod ConditionDefinitions
 -- Laws that the checker has shown.
 pub mod ChoiceLaws
 pub mod TestLaws
+pub mod AllBelowLaws
 pub mod RefusalLaws
 pub mod RepetitionLaws
 pub mod LayoutLaws

@@ -9,6 +9,7 @@ use lib.Dec.{ltb, leb}
 use lib.ListN.{getD, set, take, drop, length, length-take, length-drop, List·getD-eq-default}
 use lib.Seq.{getD-take, getD-drop, take-set-le, take-set-lt, drop-set-lt, drop-set-add, set-out, take-all}
 use Rattle.common.specs.Choice.{if_then_else_}
+use Rattle.common.specs.Layout.{layoutSize}
 use Rattle.cpu.specs.PackedCpu.{cpuOf, effectOf, stepResultOf, portsOfView}
 use Rattle.cpu.specs.Instruction.{instructionStep}
 use Rattle.cpu.specs.State.{withCpu, withStatus, withRead, withWritten}
@@ -212,16 +213,16 @@ beyond-kept (Put v) b k l n p = beyond-put v b k l n p _ refl
 pub beyond-law : (x : PackedEffect) (b : Bounds) (k : Positions) (l : List ℕ) (n : ℕ) → BoundsHold b n → (m : PartitionAfter) → m ≡ applyEffectOf x b k l → drop (b .end) (m .bytes) ≡ drop (b .end) l
 beyond-law x b k l n p m e = rw (e) (beyond-kept x b k l n p)
 
-pub bounds-end-law : (w i o f n : ℕ) (b : Bounds) → b ≡ boundsOf w i o f n → b .end ≡ w + i + o
+pub bounds-end-law : (z : Layout) (f n : ℕ) (b : Bounds) → b ≡ boundsOf z f n → b .end ≡ layoutSize z
 unfolding boundsOf
-bounds-end-law w i o f n b e = ap (λ (x : Bounds). x .end) e
+bounds-end-law z f n b e = ap (λ (x : Bounds). x .end) e
 
 -- one iteration of the loop is one step of the machine
 packed-after-step : (given : State) (b : Bounds) (c : Cpu) (s : ℕ) (k : Positions) (l : List ℕ) (w : PackedStep) → withEffect (effectOf (w .effect)) (machineByBounds given b (cpuOf (w .cpu)) (w .status) k l) ≡ afterStep (stepResultOf w) (machineByBounds given b c s k l)
 unfolding machineByBounds stepResultOf
 packed-after-step given b c s k l w = refl
 
-step-by-bounds : (given : State) (b : Bounds) (c : Cpu) (s : ℕ) (k : Positions) (l : List ℕ) → instructionStep c (take (b .«input_start») l) (portsOf (machineByBounds given b c s k l)) ≡ instructionStep (machineByBounds given b c s k l .state .cpu) (machineByBounds given b c s k l .window) (portsOf (machineByBounds given b c s k l))
+step-by-bounds : (given : State) (b : Bounds) (c : Cpu) (s : ℕ) (k : Positions) (l : List ℕ) → instructionStep c (take (b .«input_start») l) (b .locked) (portsOf (machineByBounds given b c s k l)) ≡ instructionStep (machineByBounds given b c s k l .state .cpu) (machineByBounds given b c s k l .window) (machineByBounds given b c s k l .locked) (portsOf (machineByBounds given b c s k l))
 unfolding machineByBounds
 step-by-bounds given b c s k l = refl
 
@@ -233,22 +234,22 @@ pub status-at : (given : State) (b : Bounds) (c : Cpu) (s : ℕ) (k : Positions)
 unfolding machineByBounds
 status-at given b c s k l = refl
 
-pub iteration-steps : (given : State) (b : Bounds) (m : PackedCpu) (s : ℕ) (k : Positions) (l : List ℕ) → BoundsHold b (length l) → s ≡ 1 → (w : PackedStep) → stepResultOf w ≡ instructionStep (cpuOf m) (take (b .«window_end») l) (portsOfView (portViewOf b k) (take (b .«input_end») l)) → (n : Positions) (v : List ℕ) → partitionAfter n v ≡ applyEffectOf (w .effect) b k l → machineByBounds given b (cpuOf (w .cpu)) (w .status) n v ≡ machineStep (machineByBounds given b (cpuOf m) s k l)
+pub iteration-steps : (given : State) (b : Bounds) (m : PackedCpu) (s : ℕ) (k : Positions) (l : List ℕ) → BoundsHold b (length l) → s ≡ 1 → (w : PackedStep) → stepResultOf w ≡ instructionStep (cpuOf m) (take (b .«window_end») l) (b .locked) (portsOfView (portViewOf b k) (take (b .«input_end») l)) → (n : Positions) (v : List ℕ) → partitionAfter n v ≡ applyEffectOf (w .effect) b k l → machineByBounds given b (cpuOf (w .cpu)) (w .status) n v ≡ machineStep (machineByBounds given b (cpuOf m) s k l)
 iteration-steps given b m s k l q e w g n v h =
     let window : take (b .«window_end») l ≡ take (b .«input_start») l = take-cut (b .«input_start») (b .«window_end») l (q .window-end) _ refl in
-    let d : stepResultOf w ≡ instructionStep (cpuOf m) (take (b .«input_start») l) (portsOf (machineByBounds given b (cpuOf m) s k l)) =
+    let d : stepResultOf w ≡ instructionStep (cpuOf m) (take (b .«input_start») l) (b .locked) (portsOf (machineByBounds given b (cpuOf m) s k l)) =
     g
-    ∙ ap (λ (x : List ℕ). instructionStep (cpuOf m) x (portsOfView (portViewOf b k) (take (b .«input_end») l))) window
-    ∙ ap (λ (x : Ports). instructionStep (cpuOf m) (take (b .«input_start») l) x) (ports-law given b (cpuOf m) s k l q) in
+    ∙ ap (λ (x : List ℕ). instructionStep (cpuOf m) x (b .locked) (portsOfView (portViewOf b k) (take (b .«input_end») l))) window
+    ∙ ap (λ (x : Ports). instructionStep (cpuOf m) (take (b .«input_start») l) (b .locked) x) (ports-law given b (cpuOf m) s k l q) in
     let ports = portsOf (machineByBounds given b (cpuOf m) s k l) in
-    let allowed : EffectAllowed ports (stepResultOf w .effect) = subst (λ (t : StepResult). EffectAllowed ports (t .effect)) (sym d) (ending-allowed (step-ends (cpuOf m) (take (b .«input_start») l) ports)) in
+    let allowed : EffectAllowed ports (stepResultOf w .effect) = subst (λ (t : StepResult). EffectAllowed ports (t .effect)) (sym d) (ending-allowed (step-ends (cpuOf m) (take (b .«input_start») l) (b .locked) ports)) in
     apply-law (w .effect) given b (cpuOf (w .cpu)) (w .status) k l q (allowed-at given b (cpuOf m) (cpuOf (w .cpu)) s (w .status) k l w allowed) (partitionAfter n v) h
     ∙ packed-after-step given b (cpuOf m) s k l w
     ∙ ap (λ (t : StepResult). afterStep t (machineByBounds given b (cpuOf m) s k l)) (d ∙ step-by-bounds given b (cpuOf m) s k l)
     ∙ sym (step-runs (machineByBounds given b (cpuOf m) s k l) (status-at given b (cpuOf m) s k l ∙ e))
 
 -- the machine by its bounds is the machine by its layout
-pub machine-by-bounds-law : (z : Layout) (given s : State) (b : Bounds) (n : ℕ) (k : Positions) (l : List ℕ) → b ≡ boundsOf (z .window) (z .input) (z .output) (given .filled) n
+pub machine-by-bounds-law : (z : Layout) (given s : State) (b : Bounds) (n : ℕ) (k : Positions) (l : List ℕ) → b ≡ boundsOf z (given .filled) n
     → s ≡ withWritten (k .written) (withRead (k .read) (withStatus (s .status) (withCpu (s .cpu) given))) → machineByBounds given b (s .cpu) (s .status) k l ≡ machineOf z s l
 unfolding boundsOf machineByBounds
 machine-by-bounds-law z given s b n k l e h =

@@ -12,9 +12,11 @@ use Rattle.common.specs.declared.layout.Layout.{Layout}
 use Rattle.common.specs.declared.places.Address.{Address}
 use Rattle.cpu.specs.declared.state.State.{State}
 
--- it knows no memory and no neighbour: address a is the window's byte a
+-- it knows no memory and no neighbour: address a is the window's byte a. The first bytes of the window are locked, as many as `locked`
+-- says (document 02, U6)
 pub record Machine : Type 0 where
   pub state : State
+  pub locked : ℕ
   pub window : List ℕ
   pub input : List ℕ
   pub output : List ℕ
@@ -24,14 +26,15 @@ abbrev pub machineOf : Layout → State → List ℕ → Machine
 machineOf layout state bytes =
     record {
       state = state;
+      locked = layout .locked;
       window = take (layout .window) bytes;
       input = take (layout .input) (drop (layout .window) bytes);
       output = take (layout .output) (drop (layout .window + layout .input) bytes);
     }
 
--- the same bytes with another state
+-- the same bytes, and the same of them locked, with another state
 abbrev pub withState : State → Machine → Machine
-withState z m = record { state = z; window = m .window; input = m .input; output = m .output }
+withState z m = record { state = z; locked = m .locked; window = m .window; input = m .input; output = m .output }
 
 -- what a slice that is longer than its partition holds behind it
 abbrev pub beyond : Layout → List ℕ → List ℕ
@@ -52,13 +55,13 @@ withCpuAndStatus s m = withState (withStatus (s .status) (withCpu (s .cpu) (m .s
 
 -- the three effects: a byte stored in the window, the input byte taken, a byte put out
 abbrev pub withByteStored : Address → ℕ → Machine → Machine
-withByteStored a v m = record { state = m .state; window = set (m .window) (a .0) v; input = m .input; output = m .output }
+withByteStored a v m = record { state = m .state; locked = m .locked; window = set (m .window) (a .0) v; input = m .input; output = m .output }
 
 abbrev pub withInputTaken : Machine → Machine
 withInputTaken m = withState (withRead (m .state .read + 1) (m .state)) m
 
 abbrev pub withOutputPut : ℕ → Machine → Machine
-withOutputPut v m = record { state = withWritten (m .state .written + 1) (m .state); window = m .window; input = m .input; output = set (m .output) (m .state .written) v }
+withOutputPut v m = record { state = withWritten (m .state .written + 1) (m .state); locked = m .locked; window = m .window; input = m .input; output = set (m .output) (m .state .written) v }
 
 -- the step's effect
 unfoldable pub withEffect : Effect → Machine → Machine
@@ -73,4 +76,4 @@ afterStep s m = withEffect (s .effect) (withCpuAndStatus s m)
 
 -- a step at a status other than 1 changes nothing; else it is one instruction
 unfoldable pub machineStep : Machine → Machine
-machineStep m = if eqb (m .state .status) 1 then afterStep (instructionStep (m .state .cpu) (m .window) (portsOf m)) m else m
+machineStep m = if eqb (m .state .status) 1 then afterStep (instructionStep (m .state .cpu) (m .window) (m .locked) (portsOf m)) m else m

@@ -1,7 +1,9 @@
--- Definitions that must be believed: the operand of each addressing mode (document 01, "The machine"; manual, "Addressing Modes").
+-- Definitions that must be believed: the operand of each addressing mode, and what is done with it (document 01, "The machine"; manual,
+-- "Addressing Modes"; document 02, U6).
+use mathlib.Core.Bool.{Bool, false}
 use mathlib.Core.List.{List}
 use Prim.Native.Nat.{ℕ, _+_, _*_, _/_, _%_}
-use lib.Dec.{eqb}
+use lib.Dec.{eqb, ltb}
 use Rattle.cpu.specs.Address.{addInPage, addWrapping, fetchOf, ifFetched, ifResolved, pointerOf, resolveOf, relativeOf}
 use Rattle.common.specs.Choice.{if_then_else_}
 use Rattle.cpu.specs.Result.{StepResult, Store, stepResult, stoppedOf, addressAfter, advancedOf, operatedOf}
@@ -93,7 +95,13 @@ abbrev pub accessOf : Access → Cpu → ℕ → ℕ → Address → StepResult
 accessOf (Read f) cpu d b a = operatedOf f cpu d b
 accessOf Write cpu d b a = stepResult cpu 1 (Store a (registerOf cpu d))
 
--- an operand that is outside the window anywhere stops the instruction with status 6
-unfoldable pub operateOnOperandOf : Mode → Access → Cpu → ℕ → List ℕ → ℕ → StepResult
-operateOnOperandOf mode access cpu k window r =
-    ifOperand (operandOf mode cpu k window r) (stoppedOf cpu 6) (λ b a d after. accessOf access after d b a)
+-- a store below the lock; reads are free
+unfoldable pub isLocked : Access → Address → ℕ → Bool
+isLocked (Read f) a locked = false
+isLocked Write a locked = ltb (a .0) locked
+
+-- an operand that is outside the window anywhere stops the instruction with status 6; then a store below the lock, with status 8
+unfoldable pub operateOnOperandOf : Mode → Access → Cpu → ℕ → List ℕ → ℕ → ℕ → StepResult
+operateOnOperandOf mode access cpu k window locked r =
+    ifOperand (operandOf mode cpu k window r) (stoppedOf cpu 6) (λ b a d after.
+    if isLocked access a locked then stoppedOf cpu 8 else accessOf access after d b a)

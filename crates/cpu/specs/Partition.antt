@@ -6,6 +6,7 @@ use Prim.Native.Nat.{ℕ, _+_, _%_, _-_, _<_, _≤_, min}
 use lib.Dec.{ltb, leb}
 use lib.ListN.{set, take, drop}
 use Rattle.common.specs.Choice.{if_then_else_}
+use Rattle.common.specs.declared.layout.Layout.{Layout}
 use Rattle.cpu.specs.Machine.{Machine}
 use Rattle.cpu.specs.State.{withCpu, withStatus, withFilled, withRead, withWritten}
 use Rattle.cpu.specs.declared.state.State.{State}
@@ -16,16 +17,17 @@ use Rattle.cpu.specs.declared.result.PackedEffect.{PackedEffect}
 use Rattle.cpu.specs.declared.result.PackedEffect.the-variants.{Nothing, Store, Take, Put}
 use Rattle.cpu.specs.declared.cpu.Cpu.{Cpu}
 
--- where the parts of n bytes start by their sizes, and where they end, cut at n
-unfoldable pub boundsOf : ℕ → ℕ → ℕ → ℕ → ℕ → Bounds
-boundsOf w i o filled n =
+-- where the parts of n bytes start by their layout, and where they end, cut at n
+unfoldable pub boundsOf : Layout → ℕ → ℕ → Bounds
+boundsOf z filled n =
     record {
-      «window_end» = min w n;
-      «input_start» = w;
-      «input_end» = min (w + i) n;
-      «output_start» = w + i;
-      «output_end» = min (w + i + o) n;
-      end = w + i + o;
+      «window_end» = min (z .window) n;
+      «input_start» = z .window;
+      «input_end» = min (z .window + z .input) n;
+      «output_start» = z .window + z .input;
+      «output_end» = min (z .window + z .input + z .output) n;
+      end = z .window + z .input + z .output;
+      locked = z .locked;
       filled = filled;
     }
 
@@ -46,6 +48,7 @@ unfoldable pub machineByBounds : State → Bounds → Cpu → ℕ → Positions 
 machineByBounds given b cpu status k l =
     record {
       state = withWritten (k .written) (withRead (k .read) (withFilled (b .filled) (withStatus status (withCpu cpu given))));
+      locked = b .locked;
       window = take (b .«input_start») l;
       input = take (b .«output_start» - b .«input_start») (drop (b .«input_start») l);
       output = take (b .end - b .«output_start») (drop (b .«output_start») l);

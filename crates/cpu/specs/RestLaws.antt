@@ -7,7 +7,7 @@ use Rattle.cpu.specs.Instruction.{instructionStep}
 use Rattle.cpu.specs.Machine.{Machine, portsOf, afterStep, machineStep}
 use Rattle.common.specs.Repetition.{times}
 
-pub step-runs : (m : Machine) → m .state .status ≡ 1 → machineStep m ≡ afterStep (instructionStep (m .state .cpu) (m .window) (portsOf m)) m
+pub step-runs : (m : Machine) → m .state .status ≡ 1 → machineStep m ≡ afterStep (instructionStep (m .state .cpu) (m .window) (m .locked) (portsOf m)) m
 unfolding machineStep if_then_else_
 step-runs m e = rw (eq-eqb _ _ e)
 

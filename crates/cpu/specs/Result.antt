@@ -38,7 +38,7 @@ runningOf cpu = stepResult cpu 1 Nothing
 
 -- the last of the statuses
 abbrev pub lastStatus : ℕ
-lastStatus = 7
+lastStatus = 8
 
 -- statuses from 3 on: nothing of the instruction takes effect, and the counter remains at its first byte
 abbrev pub stoppedOf : Cpu → ℕ → StepResult

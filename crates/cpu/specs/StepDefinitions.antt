@@ -9,7 +9,7 @@ use Rattle.cpu.specs.Cpu.{callOf, counterOf, freshCpu, pslOf, psuOf, reg
 use Rattle.decode.specs.Decode.{decodeOf, eachOfFour, firstAndRest, restAndLast}
 use Rattle.cpu.specs.Instruction.{executeOf, instructionStep}
 use Rattle.cpu.specs.Machine.{machineStep, withEffect}
-use Rattle.cpu.specs.Operand.{absoluteOperandOf, dataRegisterOf, immediateOperandOf, indexValueOf, indexedAddressOf, operandOf, operateOnOperandOf, registerOperandOf, relativeOperandOf, steppedIndexOf}
+use Rattle.cpu.specs.Operand.{absoluteOperandOf, dataRegisterOf, immediateOperandOf, indexValueOf, indexedAddressOf, isLocked, operandOf, operateOnOperandOf, registerOperandOf, relativeOperandOf, steppedIndexOf}
 use Rattle.cpu.specs.Port.{readDataOf, writeDataOf}
 use Rattle.cpu.specs.Psw.{maskedOf, psuWithSense, testedOf}
 use Rattle.cpu.specs.Result.{advancedOf, operatedOf, registerChangedOf, withAluResult}
@@ -31,7 +31,7 @@ address-definitions = Unit {0}
 
 -- the operand of each addressing mode
 unfoldable pub operand-definitions : Type 0
-unfolding indexValueOf indexedAddressOf dataRegisterOf steppedIndexOf registerOperandOf immediateOperandOf relativeOperandOf absoluteOperandOf operandOf operateOnOperandOf
+unfolding indexValueOf indexedAddressOf dataRegisterOf steppedIndexOf registerOperandOf immediateOperandOf relativeOperandOf absoluteOperandOf operandOf isLocked operateOnOperandOf
 operand-definitions = Unit {0}
 
 -- branches, calls and returns

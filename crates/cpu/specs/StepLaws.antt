@@ -1,22 +1,23 @@
 -- Laws that the checker has shown: the ways in which a step ends, and that there are no others.
-use mathlib.Core.Bool.{Bool, true, false}
+use mathlib.Core.Bool.{Bool, true, false, false≢true}
 use mathlib.Core.List.{List}
-use mathlib.Core.Path.{_≡_, refl, subst}
+use mathlib.Core.Path.{_≡_, refl, sym, subst, _∙_}
 use Prim.Native.Nat.{ℕ, _%_, _<_, _≤_}
 use native.Mathlib.Omega.{arith}
-use borrow.Author.Tests.{ltb-true}
+use borrow.Author.Tests.{ltb-true, ltb-false}
 use lib.ListN.{length}
 use Rattle.cpu.specs.Address.{fetchOf, ifFetched, pointerOf, resolveOf}
 use Rattle.cpu.specs.Branch.{registerCountedOf, isCallOf, jumpOf, branchIfTakenOf, targetBy, targetOf, ifTarget, branchOf, zeroBranchOf, indexedBranchOf, returnIfOf, returnEnableOf}
 use Rattle.cpu.specs.InvariantLaws.{KeepsInvariants, LeadsTo, lead-after, lead-bytes, lead-wrapping, lead-relative, keep-advanced, keep-alu-result, keep-call, keep-return-from-call, keep-clear-ii, keep-index, keep-counted}
 use Rattle.decode.specs.Decode.{decodeOf, instructionLength}
 use Rattle.cpu.specs.Instruction.{executeOf, instructionStep}
-use Rattle.cpu.specs.Operand.{Operand, Found, NoOperand, registerOperandOf, immediateOperandOf, relativeOperandOf, absoluteOperandOf, operandOf, ifOperand, accessOf, operateOnOperandOf}
+use Rattle.cpu.specs.Operand.{Operand, Found, NoOperand, registerOperandOf, immediateOperandOf, relativeOperandOf, absoluteOperandOf, operandOf, ifOperand, accessOf, isLocked, operateOnOperandOf}
 use Rattle.cpu.specs.Port.{readDataOf, writeDataOf}
-use Rattle.cpu.specs.Result.{Ports, Effect, Nothing, Store, Take, Put, StepResult, stepResult, runningOf, lastStatus, stoppedOf, registerChangedOf, operatedOf}
+use Rattle.cpu.specs.Result.{Ports, Effect, Nothing, Store, Take, Put, StepResult, stepResult, runningOf, stoppedOf, registerChangedOf, operatedOf}
 use Rattle.cpu.specs.Cpu.{counterOf}
 use Rattle.cpu.specs.Psw.{maskedOf, testedOf}
 use Rattle.cpu.specs.AddressLaws.{byte-all, address-all}
+use Rattle.common.specs.Choice.{if_then_else_}
 use Rattle.common.specs.ChoiceLaws.{if-all}
 use Rattle.cpu.specs.WrtdSteps.{isWrtd, isAtWrtd}
 use Rattle.common.specs.declared.places.Address.{Address}
@@ -25,6 +26,7 @@ use Rattle.cpu.specs.declared.address.Fetched.the-variants.{Byte, NoByte
 use Rattle.cpu.specs.declared.address.Resolved.{Resolved}
 use Rattle.cpu.specs.declared.address.Resolved.the-variants.{At, Outside}
 use Rattle.alu.specs.declared.alu.AluResult.{AluResult}
+use Rattle.alu.specs.declared.alu.Operation.{Operation}
 use Rattle.cpu.specs.declared.branch.Target.{Target}
 use Rattle.cpu.specs.declared.branch.Target.the-variants.{To, NoTarget}
 use Rattle.decode.specs.declared.decode.Instruction.{Instruction}
@@ -38,20 +40,27 @@ use Rattle.decode.specs.declared.decode.Access.{Access}
 use Rattle.decode.specs.declared.decode.Access.the-variants.{Read, Write}
 use Rattle.cpu.specs.declared.cpu.Cpu.{Cpu}
 
--- the eight ways in which a step ends. Two of them are WRTD's, and they are its only ones
-pub data Ending (cpu : Cpu) (window : List ℕ) (p : Ports) : Bool → StepResult → Type 1 where
-  continues : (next : Cpu) → KeepsInvariants cpu next → Ending cpu window p false (runningOf next)
-  halts : (next : Cpu) → KeepsInvariants cpu next → Ending cpu window p false (stepResult next 2 Nothing)
-  stores : (next : Cpu) (a : Address) (v : ℕ) → KeepsInvariants cpu next → a .0 < length window → Ending cpu window p false (stepResult next 1 (Store a v))
-  takes-input : (next : Cpu) → KeepsInvariants cpu next → p .unread ≡ true → Ending cpu window p false (stepResult next 1 Take)
-  wants-input : p .unread ≡ false → Ending cpu window p false (stoppedOf cpu 3)
-  stops : (n : ℕ) → 5 ≤ n → n ≤ lastStatus → Ending cpu window p false (stoppedOf cpu n)
-  puts-output : (next : Cpu) (v : ℕ) → KeepsInvariants cpu next → p .full ≡ false → Ending cpu window p true (stepResult next 1 (Put v))
-  finds-full : p .full ≡ true → Ending cpu window p true (stoppedOf cpu 4)
+-- the nine ways in which a step ends. Two of them are WRTD's, and they are its only ones. Whatever the instruction that stores, the byte is
+-- inside the window; at or above the lock it is stored, below it the step stops
+pub data Ending (cpu : Cpu) (window : List ℕ) (locked : ℕ) (p : Ports) : Bool → StepResult → Type 1 where
+  continues : (next : Cpu) → KeepsInvariants cpu next → Ending cpu window locked p false (runningOf next)
+  halts : (next : Cpu) → KeepsInvariants cpu next → Ending cpu window locked p false (stepResult next 2 Nothing)
+  stores : (next : Cpu) (a : Address) (v : ℕ) → KeepsInvariants cpu next → locked ≤ a .0 → a .0 < length window → Ending cpu window locked p false (stepResult next 1 (Store a v))
+  takes-input : (next : Cpu) → KeepsInvariants cpu next → p .unread ≡ true → Ending cpu window locked p false (stepResult next 1 Take)
+  wants-input : p .unread ≡ false → Ending cpu window locked p false (stoppedOf cpu 3)
+  finds-locked : (a : Address) → a .0 < locked → a .0 < length window → Ending cpu window locked p false (stoppedOf cpu 8)
+  stops : (n : ℕ) → 5 ≤ n → n ≤ 7 → Ending cpu window locked p false (stoppedOf cpu n)
+  puts-output : (next : Cpu) (v : ℕ) → KeepsInvariants cpu next → p .full ≡ false → Ending cpu window locked p true (stepResult next 1 (Put v))
+  finds-full : p .full ≡ true → Ending cpu window locked p true (stoppedOf cpu 4)
 
-module _ (cpu : Cpu) (w : List ℕ) (p : Ports) where
+-- the lock stops no read
+read-free : (f : Operation) (a : Address) (n : ℕ) → isLocked (Read f) a n ≡ false
+unfolding isLocked
+read-free f a n = refl
+
+module _ (cpu : Cpu) (w : List ℕ) (n : ℕ) (p : Ports) where
   abbrev Ends : StepResult → Type 1
-  Ends s = Ending cpu w p false s
+  Ends s = Ending cpu w n p false s
 
   outside : Ends (stoppedOf cpu 6)
   outside = stops 6 (omega arith) (omega arith)
@@ -100,16 +109,23 @@ module _ (cpu : Cpu) (w : List ℕ) (p : Ports) where
           address-all OperandInside (λ e. missing) (λ a e.
           byte-all OperandInside (λ e. missing) (λ b e. found _ _ _ _ (fetched-inside a b e) (λ i s. keep-advanced _ k i (keep-index cpu r _ _ i s))))))
 
-      access-ends : (access : Access) (b : ℕ) (a : Address) (d : ℕ) (next : Cpu) → a .0 < length w → KeepsInvariants cpu next → Ends (accessOf access next d b a)
-      unfolding operatedOf
-      access-ends (Read f) b a d next h g = continues _ (λ i s. keep-alu-result next d _ i (g i s))
-      access-ends Write b a d next h g = stores next a _ g h
+      -- a store that is carried out is not below the lock
+      access-ends : (access : Access) (b : ℕ) (a : Address) (d : ℕ) (next : Cpu) → a .0 < length w → KeepsInvariants cpu next → isLocked access a n ≡ false → Ends (accessOf access next d b a)
+      unfolding operatedOf isLocked
+      access-ends (Read f) b a d next h g e = continues _ (λ i s. keep-alu-result next d _ i (g i s))
+      access-ends Write b a d next h g e = stores next a _ g (ltb-false _ _ e) h
 
-      if-operand-ends : (o : Operand) (access : Access) → OperandInside o → Ends (ifOperand o (stoppedOf cpu 6) (λ b a d next. accessOf access next d b a))
-      if-operand-ends (Found b a d next) access (found _ _ _ _ h g) = access-ends access b a d next h g
+      -- one that is below it stops there
+      locked-ends : (access : Access) (a : Address) → a .0 < length w → isLocked access a n ≡ true → Ends (stoppedOf cpu 8)
+      unfolding isLocked
+      locked-ends (Read f) a h e = absurd (false≢true (sym (read-free f a n) ∙ e))
+      locked-ends Write a h e = finds-locked a (ltb-true _ _ e) h
+
+      if-operand-ends : (o : Operand) (access : Access) → OperandInside o → Ends (ifOperand o (stoppedOf cpu 6) (λ b a d next. if isLocked access a n then stoppedOf cpu 8 else accessOf access next d b a))
+      if-operand-ends (Found b a d next) access (found _ _ _ _ h g) = if-all Ends (λ e. locked-ends access a h e) (λ e. access-ends access b a d next h g e)
       if-operand-ends NoOperand access missing = outside
 
-      operate-ends : (mode : Mode) (access : Access) (r : ℕ) → Ends (operateOnOperandOf mode access cpu k w r)
+      operate-ends : (mode : Mode) (access : Access) (r : ℕ) → Ends (operateOnOperandOf mode access cpu k w n r)
       unfolding operateOnOperandOf
       operate-ends mode access r = if-operand-ends (operandOf mode cpu k w r) access (operand-inside mode r)
 
@@ -189,11 +205,11 @@ module _ (cpu : Cpu) (w : List ℕ) (p : Ports) where
     unfolding readDataOf
     read-data-ends r = if-all Ends (λ e. takes-input _ (λ i s. keep-advanced _ k i (keep-alu-result cpu r _ i s)) e) (λ e. wants-input e)
 
-    write-data-ends : (r : ℕ) → Ending cpu w p true (writeDataOf cpu k p r)
+    write-data-ends : (r : ℕ) → Ending cpu w n p true (writeDataOf cpu k p r)
     unfolding writeDataOf
-    write-data-ends r = if-all (Ending cpu w p true) (λ e. finds-full e) (λ e. puts-output _ _ (keep-advanced cpu k) e)
+    write-data-ends r = if-all (Ending cpu w n p true) (λ e. finds-full e) (λ e. puts-output _ _ (keep-advanced cpu k) e)
 
-    execute-ends : (i : Instruction) (r : ℕ) → 0 < length w → Ending cpu w p (isWrtd i) (executeOf i cpu k w p r)
+    execute-ends : (i : Instruction) (r : ℕ) → 0 < length w → Ending cpu w n p (isWrtd i) (executeOf i cpu k w n p r)
     unfolding executeOf isWrtd
     execute-ends Unknown r h = stops 5 (omega arith) (omega arith)
     execute-ends ControlPort r h = stops 7 (omega arith) (omega arith)
@@ -226,13 +242,13 @@ module _ (cpu : Cpu) (w : List ℕ) (p : Ports) where
     execute-ends Bxa r h = indexed-branch-ends false
     execute-ends Bsxa r h = indexed-branch-ends true
 
-  -- every step ends in one of the eight ways
-  pub step-ends : Ending cpu w p (isAtWrtd cpu w) (instructionStep cpu w p)
+  -- every step ends in one of the nine ways
+  pub step-ends : Ending cpu w n p (isAtWrtd cpu w) (instructionStep cpu w n p)
   unfolding instructionStep isAtWrtd ifFetched
   step-ends = go (fetchOf w (counterOf cpu)) refl
     where
       go : (f : Fetched) → fetchOf w (counterOf cpu) ≡ f
-          → Ending cpu w p (ifFetched f false (λ op. isWrtd (decodeOf op))) (ifFetched f (stoppedOf cpu 6) (λ op. executeOf (decodeOf op) cpu (instructionLength (decodeOf op)) w p (op % 4)))
+          → Ending cpu w n p (ifFetched f false (λ op. isWrtd (decodeOf op))) (ifFetched f (stoppedOf cpu 6) (λ op. executeOf (decodeOf op) cpu (instructionLength (decodeOf op)) w n p (op % 4)))
       go (Byte op) e = execute-ends (instructionLength (decodeOf op)) (decodeOf op) (op % 4) (omega (arith, fetched-inside _ op e))
       go NoByte e = outside
 
@@ -243,12 +259,13 @@ EffectAllowed p (Store a v) = Unit {0}
 EffectAllowed p Take = p .unread ≡ true
 EffectAllowed p (Put v) = p .full ≡ false
 
-pub ending-allowed : {cpu : Cpu} {w : List ℕ} {p : Ports} {wrtd : Bool} {s : StepResult} → Ending cpu w p wrtd s → EffectAllowed p (s .effect)
+pub ending-allowed : {cpu : Cpu} {w : List ℕ} {n : ℕ} {p : Ports} {wrtd : Bool} {s : StepResult} → Ending cpu w n p wrtd s → EffectAllowed p (s .effect)
 ending-allowed (continues next k) = tt
 ending-allowed (halts next k) = tt
-ending-allowed (stores next a v k h) = tt
+ending-allowed (stores next a v k l h) = tt
 ending-allowed (takes-input next k h) = h
 ending-allowed (puts-output next v k h) = h
 ending-allowed (wants-input h) = tt
 ending-allowed (finds-full h) = tt
+ending-allowed (finds-locked a l h) = tt
 ending-allowed (stops n h l) = tt

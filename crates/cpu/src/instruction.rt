@@ -22,12 +22,13 @@ fn execute(
     i: Instruction,
     m: PackedCpu,
     window: &[u8],
+    locked: usize,
     source: &[u8],
     o: PortView,
     r: u8,
 ) -> PackedStep
     requires { ⌜ r < 4 ⌝ }
-    ensures { λ s. ⌜ stepResultOf s ≡ executeOf i (cpuOf m) (instructionLength i) (now (window .entry)) (portsOfView o (now (source .entry))) r ⌝ }
+    ensures { λ s. ⌜ stepResultOf s ≡ executeOf i (cpuOf m) (instructionLength i) (now (window .entry)) locked (portsOfView o (now (source .entry))) r ⌝ }
 {
     match i {
         Instruction::Unknown => result::stopped(m, 5),
@@ -38,6 +39,7 @@ fn execute(
             access,
             m,
             window,
+            locked,
             r,
         ),
         Instruction::Strz => {
@@ -118,13 +120,19 @@ fn execute(
     }
 }
 
-pub(crate) fn step(m: PackedCpu, window: &[u8], source: &[u8], o: PortView) -> PackedStep
-    ensures { λ s. ⌜ stepResultOf s ≡ instructionStep (cpuOf m) (now (window .entry)) (portsOfView o (now (source .entry))) ⌝ }
+pub(crate) fn step(
+    m: PackedCpu,
+    window: &[u8],
+    locked: usize,
+    source: &[u8],
+    o: PortView,
+) -> PackedStep
+    ensures { λ s. ⌜ stepResultOf s ≡ instructionStep (cpuOf m) (now (window .entry)) locked (portsOfView o (now (source .entry))) ⌝ }
 {
     let here = packed_cpu::counter(m);
     let Fetched::Byte(op) = address::fetch(window, here) else {
         return result::stopped(m, 6);
     };
     let i = Instruction::decode(op);
-    execute(i, m, window, source, o, op % 4)
+    execute(i, m, window, locked, source, o, op % 4)
 }

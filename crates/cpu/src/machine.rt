@@ -14,13 +14,7 @@ pub fn run(state: State, partition: &mut [u8], layout: Layout, steps: u64) -> St
     ensures { λ s. ⌜ machineOf layout s (now (partition .exit)) ≡ times steps machineStep (machineOf layout state (now (partition .entry))) ⌝ }
     ensures { λ s. ⌜ beyond layout (now (partition .exit)) ≡ beyond layout (now (partition .entry)) ⌝ }
 {
-    let b = partition::bounds_of(
-        layout.window,
-        layout.input,
-        layout.output,
-        state.filled,
-        partition.len(),
-    );
+    let b = partition::bounds_of(layout, state.filled, partition.len());
     let mut cpu = packed_cpu::pack(state.cpu);
     let mut status = state.status;
     let mut k = Positions {

@@ -156,16 +156,18 @@ fn operand_of(mode: Mode, m: PackedCpu, window: &[u8], r: u8) -> OperandResult
     }
 }
 
-// A store looks its operand up like the others: the same addresses are outside.
+// A store looks its operand up like the others: the same addresses are outside. Only a store looks at the lock, so that the others do not
+// pay for it. One that the lock stops has not stepped its index.
 pub(crate) fn operate_on_operand(
     mode: Mode,
     access: Access,
     m: PackedCpu,
     window: &[u8],
+    locked: usize,
     r: u8,
 ) -> PackedStep
     requires { ⌜ r < 4 ⌝ }
-    ensures { λ s. ⌜ stepResultOf s ≡ operateOnOperandOf mode access (cpuOf m) (modeLength mode) (now (window .entry)) r ⌝ }
+    ensures { λ s. ⌜ stepResultOf s ≡ operateOnOperandOf mode access (cpuOf m) (modeLength mode) (now (window .entry)) locked r ⌝ }
 {
     let OperandResult::Ready(b, a, control, n) = operand_of(mode, m, window, r) else {
         return result::stopped(m, 6);
@@ -174,6 +176,9 @@ pub(crate) fn operate_on_operand(
     match access {
         Access::Read(f) => result::operated(f, n, d, b),
         Access::Write => {
+            if (a.0 as usize) < locked {
+                return result::stopped(m, 8);
+            }
             let v = packed_cpu::register(n, d);
             result::step_result(n, 1, PackedEffect::Store(a.0 as u64, v as u64))
         }

@@ -10,10 +10,11 @@ use crate::packed_cpu::PackedCpu;
 use crate::result::PackedEffect;
 use crate::result::PackedStep;
 use crate::result::PortView;
+use common::Layout;
 
 // The bounds of a partition's parts. `window_end`, `input_end` and `output_end` are cut at the end of the bytes at hand; `input_start`,
-// `output_start` and `end` are as the sizes have them. `filled` is how far the input is filled. The loop of a run knows the sizes by
-// these alone.
+// `output_start` and `end` are as the sizes have them. `locked` is how many bytes of the window are locked, and `filled` how far the input
+// is filled. The loop of a run knows the layout by these alone.
 pub struct Bounds {
     pub window_end: usize,
     pub input_start: usize,
@@ -21,6 +22,7 @@ pub struct Bounds {
     pub output_start: usize,
     pub output_end: usize,
     pub end: usize,
+    pub locked: usize,
     pub filled: usize,
 }
 
@@ -36,19 +38,13 @@ fn min(a: usize, b: usize) -> usize
     if a < b { a } else { b }
 }
 
-pub(crate) fn bounds_of(
-    window: u16,
-    input: u16,
-    output: u16,
-    filled: u16,
-    available: usize,
-) -> Bounds
-    ensures { λ b. ⌜ b ≡ boundsOf window input output filled available ⌝ }
+pub(crate) fn bounds_of(layout: Layout, filled: u16, available: usize) -> Bounds
+    ensures { λ b. ⌜ b ≡ boundsOf layout filled available ⌝ }
     ensures { λ b. ⌜ BoundsHold b available ⌝ }
 {
-    let input_start = window as usize;
-    let output_start = input_start + input as usize;
-    let end = output_start + output as usize;
+    let input_start = layout.window as usize;
+    let output_start = input_start + layout.input as usize;
+    let end = output_start + layout.output as usize;
     let window_end = min(input_start, available);
     let input_end = min(output_start, available);
     let output_end = min(end, available);
@@ -59,6 +55,7 @@ pub(crate) fn bounds_of(
         output_start,
         output_end,
         end,
+        locked: layout.locked as usize,
         filled: filled as usize,
     }
 }
@@ -90,12 +87,18 @@ pub(crate) fn step_in_partition(
     requires { ⌜ b .«output_start» < 131072 ⌝ }
     requires { ⌜ k .read < 65536 ⌝ }
     requires { ⌜ k .written < 65536 ⌝ }
-    ensures { λ s. ⌜ stepResultOf s ≡ instructionStep (cpuOf m) (take (b .«window_end») (now (partition .entry))) (portsOfView (portViewOf b k) (take (b .«input_end») (now (partition .entry)))) ⌝ }
+    ensures { λ s. ⌜ stepResultOf s ≡ instructionStep (cpuOf m) (take (b .«window_end») (now (partition .entry))) (b .locked) (portsOfView (portViewOf b k) (take (b .«input_end») (now (partition .entry)))) ⌝ }
 {
     let o = port_view(b, k);
     let window_end = b.window_end;
     let input_end = b.input_end;
-    instruction::step(m, &partition[..window_end], &partition[..input_end], o)
+    instruction::step(
+        m,
+        &partition[..window_end],
+        b.locked,
+        &partition[..input_end],
+        o,
+    )
 }
 
 // The one write of a step.

@@ -14,7 +14,7 @@ pub struct State {
 
 impl State {
     // The last of document 01's statuses.
-    pub const LAST_STATUS: u8 = 7;
+    pub const LAST_STATUS: u8 = 8;
 
     // Status 0, and nothing in the buffers.
     pub fn empty(cpu: Cpu) -> State

@@ -11,6 +11,7 @@ use Rattle.cpu.specs.Machine.{machineStep}
 use Rattle.supervisor.specs.Calls.{change, run, query}
 use Rattle.supervisor.specs.Events.{Event, call, write, afterEvents, roundsOfEvents}
 use Rattle.supervisor.specs.Isolation.{LeftAloneThroughout, Isolation}
+use Rattle.supervisor.specs.LockKept.{LockKept}
 use Rattle.supervisor.specs.System.{slotOf, machineIn}
 use Rattle.table.specs.Table.{isEmpty}
 use Rattle.host.specs.HostCalls.{HostBuffers, hostBuffers, systemOf, hostAfterCall}
@@ -42,3 +43,5 @@ pub record HostIsolation (h : HostBuffers) (list : List Event) : Type 0 where
       (k : ℕ) → k < 8 → isEmpty (slotOf (systemOf h) k) ≡ false → LeftAloneThroughout k list (systemOf h)
       → machineIn (slotOf (systemOf (hostAfterEvents list h)) k) (hostAfterEvents list h .memory)
       ≡ times (roundsOfEvents list (systemOf h) * slotOf (systemOf h) k .partition .quantum) machineStep (machineIn (slotOf (systemOf h) k) (h .memory))
+  -- and document 02's locked front: such a pattern has left the bytes below its lock as they were (U6)
+  pub locked : LockKept (systemOf h) list

@@ -18,6 +18,7 @@ use Rattle.table.specs.Table.{noSlot, slotAt, withSlot}
 use Rattle.supervisor.specs.Running.{afterQuantum, slotQuantum, slotQuanta, afterRun}
 use Rattle.table.specs.Sound.{tableSound}
 use Rattle.supervisor.specs.IsolationTheorem.{isolation}
+use Rattle.supervisor.specs.LockTheorem.{lock-kept}
 use Rattle.supervisor.specs.OutcomeLaws.{query-leaves}
 use Rattle.table.specs.declared.table.Slot.{Slot}
 use Rattle.table.specs.declared.table.Table.{Table}
@@ -139,4 +140,5 @@ host-isolation h list whole ok fits =
       whole = f .whole;
       isolation = d;
       machine = λ k q m l. ap (λ (y : System). machineIn (slotOf y k) (y .memory)) (f .same) ∙ d .machine k q m l;
+      locked = lock-kept (systemOf h) list ok fits;
     }

@@ -7,10 +7,10 @@ use lib.ListN.{length}
 use Rattle.pattern.specs.Frame.{bodyOf}
 use Rattle.pattern.specs.Image.{trim}
 use Rattle.pattern.specs.ImageLaws.{trim-short}
-use Rattle.pattern.specs.Reader.{readOf, ifAccepted, codeBodyOf, inputBodyOf, codeOffset, inputOffset, fromCode, fromInput}
+use Rattle.pattern.specs.Reader.{formIn, readOf, ifAccepted, codeBodyOf, inputBodyOf, codeOffset, inputOffset, fromCode, fromInput}
 use Rattle.pattern.specs.ReaderLaws.{code-fits, input-fits, read-ranges, code-at, input-at, code-offset-is, input-offset-is}
 use Rattle.pattern.specs.Parameters.{formOf}
-use Rattle.pattern.specs.ParameterLaws.{range-fact}
+use Rattle.pattern.specs.ParameterLaws.{parameters-most, range-fact}
 use Rattle.pattern.specs.Writer.{smallestLength, fileOf, writeOf}
 use Rattle.pattern.specs.WriterLaws.{accepted-written, file-length}
 use Rattle.pattern.specs.declared.reader.ReadResult.{ReadResult}
@@ -39,10 +39,10 @@ module _ (file : List ℕ) (v : Parameters) (accepted : readOf file ≡ Accepted
   input-few = omega (arith, input-fits file v accepted, read-ranges file v accepted)
 
   pub code-offset-few : codeOffset file < 65536
-  code-offset-few = omega (arith, code-offset-is file v accepted)
+  code-offset-few = omega (arith, code-offset-is file v accepted, parameters-most (formIn file))
 
   pub input-offset-few : inputOffset file < 65536
-  input-offset-few = omega (arith, input-offset-is file v accepted, code-offset-is file v accepted, code-few)
+  input-offset-few = omega (arith, input-offset-is file v accepted, code-offset-is file v accepted, parameters-most (formIn file), code-few)
 
   -- what an accepted file's stretches are
   pub code-accepted : codeStretch file ≡ stretchOf (codeOffset file) (length (codeBodyOf file))
@@ -98,4 +98,4 @@ file-few v image input room n h =
     let w = accepted-written v image input room n h in
     let r = range-fact v (w .0 .range) in
     let size : length (fileOf v image input) ≡ smallestLength (formOf v) + length (trim image) + length input = file-length v (trim image) input in
-    omega (arith, size, trim-short image, w .1, w .0 .whole, w .0 .few, r .layout .window .fits, r .layout .input .fits)
+    omega (arith, size, parameters-most (formOf v), trim-short image, w .1, w .0 .whole, w .0 .few, r .layout .window .fits, r .layout .input .fits)

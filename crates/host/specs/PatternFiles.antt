@@ -6,7 +6,7 @@ use lib.Dec.{eqb, ltb}
 use lib.ListN.{length, drop}
 use Rattle.common.specs.Choice.{if_then_else_}
 use Rattle.pattern.specs.Reader.{readOf, ifAccepted, codeBodyOf, inputBodyOf, codeOffset, inputOffset}
-use Rattle.pattern.specs.Parameters.{formOf, parametersLength, parametersBytes, parametersFromBytes}
+use Rattle.pattern.specs.Parameters.{parametersBytes, parametersBytesLength, parametersFromBytes}
 use Rattle.pattern.specs.Writer.{writeOf, writtenBuffer}
 use Rattle.pattern.specs.declared.reader.ReadResult.{ReadResult}
 use Rattle.pattern.specs.declared.reader.ReadResult.the-variants.{Accepted, Refused}
@@ -16,13 +16,14 @@ use Rattle.host.specs.HostCalls.{answerOf, BufferOutcome, bufferOutcome}
 
 -- ---- reading
 
--- the reader's number; then 16 for a buffer that is shorter than the body of `PB`; else that body at the buffer's front, the rest left
+-- the reader's number; then 16 for a buffer that is shorter than the parameters' bytes; else these at the buffer's front, the rest left. They
+-- are the same eleven in both forms, with a lock of 0 in form 1
 unfoldable pub hostRead : ReadResult → List ℕ → BufferOutcome
 hostRead (Refused n) buffer = bufferOutcome (answerOf n 0) buffer
 hostRead (Accepted p) buffer =
-    if ltb (length buffer) (parametersLength (formOf p))
+    if ltb (length buffer) parametersBytesLength
     then bufferOutcome (answerOf 16 0) buffer
-    else bufferOutcome (answerOf 0 0) (parametersBytes p ++ drop (parametersLength (formOf p)) buffer)
+    else bufferOutcome (answerOf 0 0) (parametersBytes p ++ drop parametersBytesLength buffer)
 
 -- a stretch of a file in one number: where it starts, and its length
 abbrev pub stretchOf : ℕ → ℕ → ℕ
@@ -42,9 +43,9 @@ abbrev pub writtenAnswer : WriteResult → ℕ
 writtenAnswer (written.Written n) = answerOf 0 n
 writtenAnswer (written.Refused n) = answerOf n 0
 
--- the parameters come as the body of `PB`; one of another length is out of range
+-- the parameters come as these bytes; another length is out of range
 unfoldable pub hostWrite : List ℕ → List ℕ → List ℕ → List ℕ → BufferOutcome
 hostWrite parameters image input buffer =
-    if eqb (length parameters) (parametersLength (formOf (parametersFromBytes parameters)))
+    if eqb (length parameters) parametersBytesLength
     then bufferOutcome (writtenAnswer (writeOf (parametersFromBytes parameters) image input (length buffer))) (writtenBuffer (parametersFromBytes parameters) image input buffer)
     else bufferOutcome (answerOf 9 0) buffer

@@ -1,15 +1,16 @@
--- Definitions that must be believed: a table as 372 bytes. Numbers of two and of four bytes have the high byte first.
+-- Definitions that must be believed: a table as 388 bytes. Numbers of two and of four bytes have the high byte first.
 --
 --   0  the memory's length (four bytes)
 --   4  how many bytes are free (four bytes)
 --   8  the length of the widest free extent (four bytes)
---  12  eight slots of 45 bytes each, slot k at 12 + 45 k; in a slot
+--  12  eight slots of 47 bytes each, slot k at 12 + 47 k; in a slot
 --        0  base (four bytes)
 --        4  window
 --        6  input
 --        8  output
---       10  quantum (one byte)
---       11  the state (crate encoding)
+--       10  locked
+--       12  quantum (one byte)
+--       13  the state (crate encoding)
 use mathlib.Core.List.{List, [], _∷_, _++_, map}
 use Prim.Native.Nat.{ℕ, _+_, _*_}
 use lib.ListN.{getD, drop}
@@ -23,7 +24,7 @@ use Rattle.encoding.specs.StateEncoding.{stateLength, stateBytes, stateFromByte
 -- ---- how many bytes a partition, a slot and a table have, and where the slots stand
 
 abbrev pub partitionLength : ℕ
-partitionLength = 11
+partitionLength = 13
 
 abbrev pub slotLength : ℕ
 slotLength = partitionLength + stateLength
@@ -43,6 +44,7 @@ partitionBytes p =
     ∷ u16Bytes (p .layout .window)
     ∷ u16Bytes (p .layout .input)
     ∷ u16Bytes (p .layout .output)
+    ∷ u16Bytes (p .layout .locked)
     ∷ (p .quantum ∷ [])
     ∷ []
     )
@@ -63,16 +65,16 @@ unfoldable pub partitionFromBytes : List ℕ → Partition
 partitionFromBytes bytes =
     record {
       base = record { 0 = u32At bytes 0 };
-      layout = record { window = u16At bytes 4; input = u16At bytes 6; output = u16At bytes 8 };
-      quantum = getD bytes 10 0;
+      layout = record { window = u16At bytes 4; input = u16At bytes 6; output = u16At bytes 8; locked = u16At bytes 10 };
+      quantum = getD bytes 12 0;
     }
 
 unfoldable pub slotFromBytes : List ℕ → Slot
 slotFromBytes bytes = record { partition = partitionFromBytes bytes; state = stateFromBytes (drop partitionLength bytes) }
 
--- the eight slots whose bytes start at an offset
-abbrev pub slotsFromBytes : ℕ → List ℕ → List Slot
-slotsFromBytes at bytes = tabulate 8 (λ k. slotFromBytes (partOf bytes (at + slotLength * k) slotLength))
+-- the eight slots
+abbrev pub slotsFromBytes : List ℕ → List Slot
+slotsFromBytes bytes = tabulate 8 (λ k. slotFromBytes (partOf bytes (slotsOffset + slotLength * k) slotLength))
 
 unfoldable pub tableFromBytes : List ℕ → Table
-tableFromBytes bytes = record { size = u32At bytes 0; free = u32At bytes 4; widest = u32At bytes 8; slots = slotsFromBytes slotsOffset bytes }
+tableFromBytes bytes = record { size = u32At bytes 0; free = u32At bytes 4; widest = u32At bytes 8; slots = slotsFromBytes bytes }

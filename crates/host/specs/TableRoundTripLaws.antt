@@ -1,4 +1,4 @@
--- Laws that the checker has shown: every table has its 372 bytes, every 372 bytes are a table, and each way leads back. So each table
+-- Laws that the checker has shown: every table has its 388 bytes, every 388 bytes are a table, and each way leads back. So each table
 -- has exactly one form as bytes.
 use mathlib.Core.List.{List, [], _∷_, _++_, map}
 use mathlib.Core.Path.{_≡_, refl, sym, ap, _∙_}
@@ -54,6 +54,7 @@ partition-decoded p rest =
             window = u16-decoded (p .layout .window) [] j;
             input = u16-decoded (p .layout .input) [] j;
             output = u16-decoded (p .layout .output) [] j;
+            locked = u16-decoded (p .layout .locked) [] j;
           };
       quantum = p .quantum;
     }
@@ -76,10 +77,11 @@ partition-encoded l h small =
     ∷ u16-encoded l small 4 (omega arith) j
     ∷ u16-encoded l small 6 (omega arith) j
     ∷ u16-encoded l small 8 (omega arith) j
-    ∷ part-tabulated 1 l 10 (omega arith) j
+    ∷ u16-encoded l small 10 (omega arith) j
+    ∷ part-tabulated 1 l 12 (omega arith) j
     ∷ []
     ))
-    ∙ parts-concat l 0 (4 ∷ 2 ∷ 2 ∷ 2 ∷ 1 ∷ [])
+    ∙ parts-concat l 0 (4 ∷ 2 ∷ 2 ∷ 2 ∷ 2 ∷ 1 ∷ [])
 
 slot-encoded : (l : List ℕ) → length l ≡ slotLength → AllBytes l → slotBytes (slotFromBytes l) ≡ l
 unfolding slotBytes slotFromBytes
@@ -158,7 +160,7 @@ pub table-decoded : (t : Table) → TableShaped t → tableFromBytes (tableBytes
 unfolding tableFromBytes tableBytes headBytes
 table-decoded t h =
     let l : List ℕ = concat (map slotBytes (t .slots)) in
-    let ss : slotsFromBytes slotsOffset (headBytes t ++ l) ≡ t .slots =
+    let ss : slotsFromBytes (headBytes t ++ l) ≡ t .slots =
     slots-behind 8 slotsOffset (headBytes t ++ l)
     ∙ ap (λ (k : ℕ). slotsIn k l) (sym (h .eight))
     ∙ slots-decoded (t .slots) (h .all)
@@ -173,7 +175,7 @@ table-encoded l h small =
     (λ j. concat (u32-encoded l small 0 (omega arith) j ∷ u32-encoded l small 4 (omega arith) j ∷ u32-encoded l small 8 (omega arith) j ∷ []))
     ∙ parts-concat l 0 (4 ∷ 4 ∷ 4 ∷ [])
     in
-    let others : concat (map slotBytes (slotsFromBytes slotsOffset l)) ≡ drop slotsOffset l =
+    let others : concat (map slotBytes (slotsFromBytes l)) ≡ drop slotsOffset l =
     ap (λ (ss : List Slot). concat (map slotBytes ss)) (slots-behind 8 slotsOffset l)
     ∙ slots-encoded 8 (drop slotsOffset l) (length-drop slotsOffset l ∙ (omega arith)) (bytes-drop slotsOffset l small)
     in

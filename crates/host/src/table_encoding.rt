@@ -18,12 +18,12 @@ use table::Slot;
 use table::Table;
 
 // How many bytes a partition and a slot have.
-const PARTITION_LENGTH: usize = 11;
+const PARTITION_LENGTH: usize = 13;
 
-const SLOT_LENGTH: usize = PARTITION_LENGTH + encoding::STATE_LENGTH;
+pub(crate) const SLOT_LENGTH: usize = PARTITION_LENGTH + encoding::STATE_LENGTH;
 
 // Where the first slot stands.
-const SLOTS_OFFSET: usize = 12;
+pub(crate) const SLOTS_OFFSET: usize = 12;
 
 // How many bytes a table has.
 pub(crate) const TABLE_LENGTH: usize = SLOTS_OFFSET + Table::SLOTS * SLOT_LENGTH;
@@ -36,8 +36,9 @@ fn decode_partition(bytes: &[u8]) -> Partition
         window: u16_at(bytes, 4),
         input: u16_at(bytes, 6),
         output: u16_at(bytes, 8),
+        locked: u16_at(bytes, 10),
     };
-    let quantum = byte(bytes, 10);
+    let quantum = byte(bytes, 12);
     Partition {
         base,
         layout,
@@ -46,7 +47,7 @@ fn decode_partition(bytes: &[u8]) -> Partition
 }
 
 // The slot whose bytes start at an offset.
-fn decode_slot(bytes: &[u8], at: usize) -> Slot
+pub(crate) fn decode_slot(bytes: &[u8], at: usize) -> Slot
     ensures { λ s. ⌜ s ≡ slotFromBytes (partOf (now (bytes .entry)) at slotLength) ⌝ }
 {
     let own = slices::part(bytes, at, SLOT_LENGTH);
@@ -55,16 +56,14 @@ fn decode_slot(bytes: &[u8], at: usize) -> Slot
     Slot { partition, state }
 }
 
-// The eight slots whose bytes start at an offset.
-pub(crate) fn decode_slots(bytes: &[u8], at: usize) -> [Slot; 8]
-    requires { ⌜ at ≤ slotsOffset ⌝ }
-    ensures { λ s. ⌜ s ≡ slotsFromBytes at (now (bytes .entry)) ⌝ }
+fn decode_slots(bytes: &[u8]) -> [Slot; 8]
+    ensures { λ s. ⌜ s ≡ slotsFromBytes (now (bytes .entry)) ⌝ }
 {
-    let first = decode_slot(bytes, at);
+    let first = decode_slot(bytes, SLOTS_OFFSET);
     let mut slots = [first; 8];
     let mut k: usize = 0;
     while k < Table::SLOTS {
-        slots[k] = decode_slot(bytes, at + SLOT_LENGTH * k);
+        slots[k] = decode_slot(bytes, SLOTS_OFFSET + SLOT_LENGTH * k);
         k += 1;
     }
     slots
@@ -76,7 +75,7 @@ pub(crate) fn decode_table(bytes: &[u8]) -> Table
     let size = u32_at(bytes, 0);
     let free = u32_at(bytes, 4);
     let widest = u32_at(bytes, 8);
-    let slots = decode_slots(bytes, SLOTS_OFFSET);
+    let slots = decode_slots(bytes);
     Table {
         size,
         free,
@@ -96,7 +95,8 @@ fn put_partition(bytes: &mut [u8], at: usize, partition: Partition)
     put_u16(bytes, at + 4, layout.window);
     put_u16(bytes, at + 6, layout.input);
     put_u16(bytes, at + 8, layout.output);
-    put_byte(bytes, at + 10, partition.quantum);
+    put_u16(bytes, at + 10, layout.locked);
+    put_byte(bytes, at + 12, partition.quantum);
 }
 
 // Writes a slot's bytes at an offset.

@@ -63,17 +63,17 @@ listed-text file memory text m t n h g e = rw (le-ltb (length text) 12326 h, eq-
 -- ---- the file
 
 module _ (file memory : List ℕ) where
-  long-file : 36895 < length file → fileRefusal file memory ≡ 6
+  long-file : 36897 < length file → fileRefusal file memory ≡ 6
   unfolding condition-definitions fileRefusal
-  long-file h = rw (lt-ltb 36895 (length file) h)
+  long-file h = rw (lt-ltb 36897 (length file) h)
 
-  short-refused : length file ≤ 36895 → (refusal (loadCall file) (newSystem memory) ≡ 0 → ⊥) → fileRefusal file memory ≡ refusal (loadCall file) (newSystem memory)
+  short-refused : length file ≤ 36897 → (refusal (loadCall file) (newSystem memory) ≡ 0 → ⊥) → fileRefusal file memory ≡ refusal (loadCall file) (newSystem memory)
   unfolding condition-definitions fileRefusal
-  short-refused h some = rw (le-ltb 36895 (length file) h, ne-eqb (refusal (loadCall file) (newSystem memory)) 0 some)
+  short-refused h some = rw (le-ltb 36897 (length file) h, ne-eqb (refusal (loadCall file) (newSystem memory)) 0 some)
 
-  short-accepted : length file ≤ 36895 → refusal (loadCall file) (newSystem memory) ≡ 0 → fileRefusal file memory ≡ 0
+  short-accepted : length file ≤ 36897 → refusal (loadCall file) (newSystem memory) ≡ 0 → fileRefusal file memory ≡ 0
   unfolding condition-definitions fileRefusal
-  short-accepted h none = rw (le-ltb 36895 (length file) h, none)
+  short-accepted h none = rw (le-ltb 36897 (length file) h, none)
 
   -- the answer and both lent slices where the file is refused, and where it is not
   refused-text : (k n : ℕ) (t₀ t : List ℕ) → fileRefusal file memory ≡ k → (k ≡ 0 → ⊥) → (n ≡ length (refusedLine k)) × (t ≡ refusedLine k ++ drop n t₀)
@@ -81,11 +81,11 @@ module _ (file memory : List ℕ) where
   unfolding textOf memoryAfter if_then_else_
   refused-text k n t₀ t e some h = rw (e, ne-eqb k 0 some) (h .0, (refl, h .1))
 
-  pub long-text : (n : ℕ) (t₀ t : List ℕ) → 36895 < length file → (n ≡ length (refusedLine 6)) × (t ≡ refusedLine 6 ++ drop n t₀)
+  pub long-text : (n : ℕ) (t₀ t : List ℕ) → 36897 < length file → (n ≡ length (refusedLine 6)) × (t ≡ refusedLine 6 ++ drop n t₀)
       → (n ≡ length (textOf file memory)) × ((memory ≡ memoryAfter file memory) × (t ≡ textOf file memory ++ drop n t₀))
   long-text n t₀ t h e = refused-text 6 n t₀ t (long-file h) (λ z. omega arith) e
 
-  module _ (short : length file ≤ 36895) (k : ℕ) (t₁ t₂ : Table) (m₂ : List ℕ) (new : t₁ ≡ newTable 40960)
+  module _ (short : length file ≤ 36897) (k : ℕ) (t₁ t₂ : Table) (m₂ : List ℕ) (new : t₁ ≡ newTable 40960)
       (answer : outcome k t₂ m₂ ≡ outcomeOf (loadCall file) (system t₁ memory)) where
     from-new : outcome k t₂ m₂ ≡ outcomeOf (loadCall file) (newSystem memory)
     from-new = answer ∙ ap (λ (t : Table). outcomeOf (loadCall file) (system t memory)) new

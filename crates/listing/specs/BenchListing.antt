@@ -30,7 +30,7 @@ afterBenchRounds file memory = untilStopped 1000 (afterCall (loadCall file) (new
 unfoldable pub fileRefusal : List ℕ → List ℕ → ℕ
 fileRefusal file memory =
     refusalBy
-    (ltb 36895 (length file) gives 6
+    (ltb 36897 (length file) gives 6
     ∷ not (eqb (refusal (loadCall file) (newSystem memory)) 0) gives refusal (loadCall file) (newSystem memory)
     ∷ [])
 

@@ -26,7 +26,7 @@ impl ListingResult {
 
     pub const MEMORY_LENGTH: usize = 40960;
 
-    pub const MAX_FILE: usize = 36895;
+    pub const MAX_FILE: usize = 36897;
 }
 
 // The two lines of a system whose slot 0 is loaded: reported on first, and then drained.

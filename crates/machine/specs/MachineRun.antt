@@ -9,9 +9,9 @@ use Rattle.common.specs.Repetition.{times}
 use Rattle.common.specs.declared.layout.Layout.{Layout}
 use Rattle.encoding.specs.StateEncoding.{stateFromBytes, stateLength}
 
--- how the partition is divided
-abbrev pub layoutOf : ℕ → ℕ → ℕ → Layout
-layoutOf window input output = record { window = window; input = input; output = output }
+-- how the partition is divided, and how much of the window is locked
+abbrev pub layoutOf : ℕ → ℕ → ℕ → ℕ → Layout
+layoutOf window input output locked = record { window = window; input = input; output = output; locked = locked }
 
 -- what a call leaves in the two lent slices: a machine that ran, and the bytes behind its partition;
 -- or, refused by a number, the slices as they are

@@ -14,10 +14,11 @@ pub extern "C" fn pf_machine_run(
     window: u16,
     input: u16,
     output: u16,
+    locked: u16,
     quantum: u64,
     rounds: u64,
 ) -> u8
-    ensures { λ answer. ⌜ machineOutcome answer (layoutOf window input output) (now (state .exit)) (now (partition .exit)) ≡ machineOutcomeOf (layoutOf window input output) (now (state .entry)) (now (partition .entry)) (rounds * quantum) ⌝ }
+    ensures { λ answer. ⌜ machineOutcome answer (layoutOf window input output locked) (now (state .exit)) (now (partition .exit)) ≡ machineOutcomeOf (layoutOf window input output locked) (now (state .entry)) (now (partition .entry)) (rounds * quantum) ⌝ }
 {
     if state.len() != encoding::STATE_LENGTH {
         return 1;
@@ -26,6 +27,7 @@ pub extern "C" fn pf_machine_run(
         window,
         input,
         output,
+        locked,
     };
     let start = encoding::decode_state(&state[..]);
     let end = rounds::run_rounds(start, partition, layout, quantum, rounds);

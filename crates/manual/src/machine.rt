@@ -21,6 +21,7 @@ fn layout() -> Layout {
         window: 32768,
         input: 0,
         output: 0,
+        locked: 0,
     }
 }
 

@@ -4,9 +4,9 @@ use mathlib.Core.List.{List}
 use mathlib.Core.Path.{_≡_, sym, ap, _∙_}
 use Rattle.common.specs.Refusals.{Condition, unless}
 use Rattle.pattern.specs.Frame.{behindRecord}
-use Rattle.pattern.specs.Reader.{noParameters, parametersIn, versionConditions, parametersConditions, codeConditions, inputConditions, endConditions, readOf}
+use Rattle.pattern.specs.Reader.{formIn, noParameters, parametersIn, versionConditions, parametersConditions, codeConditions, inputConditions, endConditions, readOf}
 use Rattle.common.specs.RefusalLaws.{none-unless, unless-none, unless-refused}
-use Rattle.pattern.specs.ReaderLaws.{refused-accepted, accepted-same, version-record}
+use Rattle.pattern.specs.ReaderLaws.{refused-accepted, accepted-same}
 use Rattle.pattern.specs.declared.parameters.Parameters.{Parameters}
 use Rattle.pattern.specs.declared.reader.ReadResult.{ReadResult}
 use Rattle.pattern.specs.declared.reader.ReadResult.the-variants.{Accepted, Refused}
@@ -21,8 +21,8 @@ readFromInput v i = unless Refused (inputConditions v i) (readFromEnd v (behindR
 abbrev pub readFromCode : Parameters → List ℕ → ReadResult
 readFromCode v c = unless Refused (codeConditions v c) (readFromInput v (behindRecord c))
 
-abbrev pub readFromParameters : List ℕ → ReadResult
-readFromParameters p = unless Refused (parametersConditions 1 p) (readFromCode (parametersIn 1 p) (behindRecord p))
+abbrev pub readFromParameters : ℕ → List ℕ → ReadResult
+readFromParameters form p = unless Refused (parametersConditions form p) (readFromCode (parametersIn p) (behindRecord p))
 
 module _ (ks : List Condition) (u : Parameters) {r : ReadResult} (answered : r ≡ unless Refused ks (Accepted u)) where
   -- a refused record
@@ -37,19 +37,17 @@ module _ (ks : List Condition) (u : Parameters) {r : ReadResult} (answered : r �
   reading-keeps told = accepted-same (unless-none Refused ks (Accepted u) refused-accepted (sym answered ∙ told) .1)
 
 -- each step: the next record's part of the file, what the record answered, and that it was accepted
-pub after-version : (s p : List ℕ) {r : ReadResult} {u : Parameters} → p ≡ behindRecord s → r ≡ unless Refused (versionConditions s) (Accepted noParameters)
-    → r ≡ Accepted u → readOf s ≡ readFromParameters p
+pub after-version : (s p : List ℕ) (form : ℕ) {r : ReadResult} {u : Parameters} → p ≡ behindRecord s → form ≡ formIn s → r ≡ unless Refused (versionConditions s) (Accepted noParameters)
+    → r ≡ Accepted u → readOf s ≡ readFromParameters form p
 unfolding readOf
-after-version s p place answered told =
-    let form = version-record s (unless-none Refused (versionConditions s) (Accepted noParameters) refused-accepted (sym answered ∙ told) .0) .form in
-    reading-goes-on (versionConditions s) noParameters answered told _ ∙ rw (form, ← place)
+after-version s p form place named answered told = reading-goes-on (versionConditions s) noParameters answered told _ ∙ rw (← named, ← place)
 
-pub after-parameters : (p c : List ℕ) {r : ReadResult} {v : Parameters} → c ≡ behindRecord p → r ≡ unless Refused (parametersConditions 1 p) (Accepted (parametersIn 1 p))
-    → r ≡ Accepted v → readFromParameters p ≡ readFromCode v c
-after-parameters p c place answered told =
-    reading-goes-on (parametersConditions 1 p) (parametersIn 1 p) answered told _
-    ∙ ap (λ (l : List ℕ). readFromCode (parametersIn 1 p) l) (sym place)
-    ∙ ap (λ (w : Parameters). readFromCode w c) (reading-keeps (parametersConditions 1 p) (parametersIn 1 p) answered told)
+pub after-parameters : (form : ℕ) (p c : List ℕ) {r : ReadResult} {v : Parameters} → c ≡ behindRecord p → r ≡ unless Refused (parametersConditions form p) (Accepted (parametersIn p))
+    → r ≡ Accepted v → readFromParameters form p ≡ readFromCode v c
+after-parameters form p c place answered told =
+    reading-goes-on (parametersConditions form p) (parametersIn p) answered told _
+    ∙ ap (λ (l : List ℕ). readFromCode (parametersIn p) l) (sym place)
+    ∙ ap (λ (w : Parameters). readFromCode w c) (reading-keeps (parametersConditions form p) (parametersIn p) answered told)
 
 module _ (v : Parameters) where
   pub after-code : (c i : List ℕ) {r : ReadResult} {w : Parameters} → i ≡ behindRecord c → r ≡ unless Refused (codeConditions v c) (Accepted v)

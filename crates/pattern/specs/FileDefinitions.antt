@@ -6,13 +6,13 @@ use Rattle.common.specs.Refusals.{unless}
 use Rattle.common.specs.Tests.{andAll}
 use Rattle.pattern.specs.Frame.{behindRecord, bodyLength, bodyOf, hasFrame, recordOf}
 use Rattle.pattern.specs.Image.{endsInZero, trim}
-use Rattle.pattern.specs.Parameters.{isInRange, parametersFromBytes, parametersBytes}
+use Rattle.pattern.specs.Parameters.{isInRange, formOf, parametersBytes, parametersLength, parametersFromBytes}
 use Rattle.pattern.specs.Reader.{codeConditions, codeBodyOf, endConditions, inputConditions, inputBodyOf, parametersConditions, readOf, versionConditions}
 use Rattle.pattern.specs.Writer.{recordsOf, writeConditions, writeOf}
 
 -- records, the window and the parameters
 unfoldable pub record-definitions : Type 0
-unfolding recordOf bodyLength bodyOf behindRecord hasFrame trim endsInZero layoutSound isInRange parametersFromBytes parametersBytes andAll
+unfolding recordOf bodyLength bodyOf behindRecord hasFrame trim endsInZero layoutSound isInRange formOf parametersBytes parametersLength parametersFromBytes andAll
 record-definitions = Unit {0}
 
 -- reading and writing

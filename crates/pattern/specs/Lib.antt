@@ -13,5 +13,6 @@ pub mod ImageLaws
 pub mod ReaderLaws
 pub mod WriterLaws
 pub mod RoundTripLaws
+pub mod FormOneLaws
 pub mod Theorems
 pub mod Cases

@@ -1,12 +1,13 @@
--- Definitions that must be believed: reading a pattern file (document 01, "Pattern file, form 1" and "Turned back, by place").
+-- Definitions that must be believed: reading a pattern file (document 01, "Pattern file, form 1" and "Turned back, by place";
+-- document 02, U6: form 2).
 use Prim.Native.Nat.{ℕ, _+_}
-use mathlib.Core.Bool.{not}
+use mathlib.Core.Bool.{not, _&&_}
 use mathlib.Core.List.{List, [], _∷_}
 use mathlib.Core.Path.{_≡_}
 use lib.ListN.{length, getD}
 use lib.Dec.{ltb, eqb}
 use Rattle.common.specs.Refusals.{Condition, _gives_, unless}
-use Rattle.pattern.specs.Parameters.{isInRange, parametersLength, parametersFromBytes}
+use Rattle.pattern.specs.Parameters.{isInRange, formOf, parametersLength, parametersFromBytes}
 use Rattle.pattern.specs.Frame.{frameLength, bodyLength, bodyOf, recordLength, behindRecord, hasFrame, hasFrameOfLength}
 use Rattle.pattern.specs.Image.{padded, endsInZero}
 use Rattle.pattern.specs.declared.parameters.Parameters.{Parameters}
@@ -33,32 +34,34 @@ formIn s = getD (bodyOf s) 0 0
 abbrev pub boardIn : List ℕ → ℕ
 boardIn s = getD (bodyOf s) 1 0
 
--- the parameters in the body of `PB` at the front of s, in a file of that form
-abbrev pub parametersIn : ℕ → List ℕ → Parameters
-parametersIn form s = parametersFromBytes (bodyOf s)
+-- the parameters in the body of `PB` at the front of s
+abbrev pub parametersIn : List ℕ → Parameters
+parametersIn s = parametersFromBytes (bodyOf s)
 
 -- before `PB` is read there are no parameters
 abbrev pub noParameters : Parameters
-noParameters = record { layout = record { window = 0; input = 0; output = 0 }; start = record { 0 = 0 }; quantum = 0 }
+noParameters = record { layout = record { window = 0; input = 0; output = 0; locked = 0 }; start = record { 0 = 0 }; quantum = 0 }
 
 -- the length of the body of `PV`
 abbrev pub versionLength : ℕ
 versionLength = 2
 
 -- what refuses each record, at the front of s, in order
--- `PV` (50h 56h): form 1, board 1
+-- `PV` (50h 56h): form 1 or 2, board 1
 unfoldable pub versionConditions : List ℕ → List Condition
 versionConditions s =
     not (hasFrameOfLength 0x56 versionLength s) gives 6
-    ∷ not (eqb (formIn s) 1) gives 7
+    ∷ (not (eqb (formIn s) 1) && not (eqb (formIn s) 2)) gives 7
     ∷ not (eqb (boardIn s) 1) gives 8
     ∷ []
 
--- `PB` (50h 42h): the parameters
+-- `PB` (50h 42h), in a file of that form: the parameters, and of no other form than that of their pattern. So form 2 with nothing locked is
+-- refused; in form 1 nothing can be locked
 unfoldable pub parametersConditions : ℕ → List ℕ → List Condition
 parametersConditions form s =
     not (hasFrameOfLength 0x42 (parametersLength form) s) gives 6
-    ∷ not (isInRange (parametersIn form s)) gives 9
+    ∷ not (isInRange (parametersIn s)) gives 9
+    ∷ not (eqb (formOf (parametersIn s)) form) gives 9
     ∷ []
 
 -- `PC` (50h 43h): at most the window size; empty, or its last byte not zero
@@ -85,7 +88,7 @@ endConditions s =
 
 -- the parameters in a file
 abbrev pub parametersOf : List ℕ → Parameters
-parametersOf s = parametersIn (formIn s) (fromParameters s)
+parametersOf s = parametersIn (fromParameters s)
 
 -- what reading a file answers: a record's frame is checked, then its body, then the next record
 unfoldable pub readOf : List ℕ → ReadResult

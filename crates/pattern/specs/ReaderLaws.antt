@@ -9,7 +9,7 @@ use lib.ListN.{length, take, drop}
 use lib.Seq.{drop-drop}
 use lib.Dec.{eqb}
 use borrow.Author.Tests.{eqb-true, ltb-false, not-false}
-use Rattle.pattern.specs.Parameters.{isInRange, parametersLength}
+use Rattle.pattern.specs.Parameters.{isInRange, formOf, parametersLength}
 use Rattle.pattern.specs.Frame.{frameLength, bodyLength, bodyOf, recordLength, behindRecord, hasFrame, hasFrameOfLength}
 use Rattle.pattern.specs.Image.{endsInZero}
 use Rattle.pattern.specs.Reader.{fromParameters, fromCode, fromInput, fromEnd, formIn, boardIn, parametersIn, parametersOf, versionLength, versionConditions, parametersConditions, codeConditions, inputConditions, endConditions, readOf, readRefusal, ifAccepted, codeBodyOf, inputBodyOf, codeOffset, inputOffset}
@@ -62,7 +62,6 @@ accepted-test s v p =
 pub record VersionRecord (s : List ℕ) : Type 0 where
   pub frame : FrameHolds 0x56 s
   pub size : bodyLength s ≡ versionLength
-  pub form : formIn s ≡ 1
   pub board : boardIn s ≡ 1
 
 pub version-record : (s : List ℕ) → NoneHolds (versionConditions s) → VersionRecord s
@@ -72,20 +71,25 @@ version-record s h =
     record {
       frame = f .0;
       size = f .1;
-      form = eqb-true (formIn s) 1 (not-false (eqb (formIn s) 1) (h .1 .0));
       board = eqb-true (boardIn s) 1 (not-false (eqb (boardIn s) 1) (h .1 .1 .0));
     }
 
 pub record ParametersRecord (form : ℕ) (s : List ℕ) : Type 0 where
   pub frame : FrameHolds 0x42 s
   pub size : bodyLength s ≡ parametersLength form
-  pub range : isInRange (parametersIn form s) ≡ true
+  pub range : isInRange (parametersIn s) ≡ true
+  pub same-form : formOf (parametersIn s) ≡ form
 
 pub parameters-record : (form : ℕ) (s : List ℕ) → NoneHolds (parametersConditions form s) → ParametersRecord form s
 unfolding parametersConditions
 parameters-record form s h =
     let f = has-frame-of-length-fact 0x42 (parametersLength form) s (not-false (hasFrameOfLength 0x42 (parametersLength form) s) (h .0)) in
-    record { frame = f .0; size = f .1; range = not-false (isInRange (parametersIn form s)) (h .1 .0) }
+    record {
+      frame = f .0;
+      size = f .1;
+      range = not-false (isInRange (parametersIn s)) (h .1 .0);
+      same-form = eqb-true (formOf (parametersIn s)) form (not-false (eqb (formOf (parametersIn s)) form) (h .1 .1 .0));
+    }
 
 pub record CodeRecord (v : Parameters) (s : List ℕ) : Type 0 where
   pub frame : FrameHolds 0x43 s
@@ -151,6 +155,10 @@ module _ (s : List ℕ) (v : Parameters) (accepted : readOf s ≡ Accepted v) wh
 
   pub read-ranges : InRange v
   read-ranges = range-fact v read-in-range
+
+  -- `PV` names the form of the pattern
+  pub read-form : formIn s ≡ formOf v
+  read-form = let f = accepted-file s v accepted in sym (f .parameters .same-form) ∙ ap formOf (f .same)
 
   pub code-body-is : codeBodyOf s ≡ bodyOf (fromCode s)
   unfolding codeBodyOf
@@ -231,7 +239,7 @@ pub read-zero : (s : List ℕ) → readRefusal (readOf s) ≡ 0 → readOf s ≡
 unfolding readOf versionConditions parametersConditions codeConditions inputConditions endConditions
 read-zero s e =
     let v = unless-zero (versionConditions s) _ (λ z. omega arith, (λ z. omega arith, (λ z. omega arith, tt))) e in
-    let p = unless-zero (parametersConditions (formIn s) (fromParameters s)) _ (λ z. omega arith, (λ z. omega arith, tt)) (v .1) in
+    let p = unless-zero (parametersConditions (formIn s) (fromParameters s)) _ (λ z. omega arith, (λ z. omega arith, (λ z. omega arith, tt))) (v .1) in
     let c = unless-zero (codeConditions (parametersOf s) (fromCode s)) _ (λ z. omega arith, (λ z. omega arith, (λ z. omega arith, tt))) (p .1) in
     let i = unless-zero (inputConditions (parametersOf s) (fromInput s)) _ (λ z. omega arith, (λ z. omega arith, tt)) (c .1) in
     let x = unless-zero (endConditions (fromEnd s)) _ (λ z. omega arith, (λ z. omega arith, tt)) (i .1) in
@@ -242,7 +250,7 @@ pub read-most : (s : List ℕ) → readRefusal (readOf s) ≤ 11
 unfolding readOf versionConditions parametersConditions codeConditions inputConditions endConditions
 read-most s =
     most (versionConditions s) _ (omega arith, (omega arith, (omega arith, tt)))
-    (most (parametersConditions (formIn s) (fromParameters s)) _ (omega arith, (omega arith, tt))
+    (most (parametersConditions (formIn s) (fromParameters s)) _ (omega arith, (omega arith, (omega arith, tt)))
     (most (codeConditions (parametersOf s) (fromCode s)) _ (omega arith, (omega arith, (omega arith, tt)))
     (most (inputConditions (parametersOf s) (fromInput s)) _ (omega arith, (omega arith, tt))
     (most (endConditions (fromEnd s)) _ (omega arith, (omega arith, tt)) (omega arith)))))

@@ -2,42 +2,43 @@
 use Prim.Native.Nat.{ℕ, _≤_}
 use mathlib.Core.Bool.{true, false, not}
 use mathlib.Core.List.{List, [], _∷_, _++_}
-use mathlib.Core.Path.{_≡_, sym, ap, subst⁻¹, _∙_}
+use mathlib.Core.Path.{_≡_, refl, sym, ap, subst⁻¹, _∙_}
 use native.Mathlib.Omega.{arith}
-use lib.ListN.{length, length-append, drop-of-length-le}
-use borrow.Author.Tests.{le-ltb}
+use lib.ListN.{length, getD, length-append, drop-of-length-le}
+use borrow.Author.Tests.{le-ltb, eq-eqb}
 use Rattle.slices.specs.PieceLaws.{list-tabulated}
 use Rattle.slices.specs.Slices.{AllBytes}
 use Rattle.common.specs.RefusalLaws.{NoneHolds}
-use Rattle.pattern.specs.Parameters.{isInRange, parametersBytes, parametersFromBytes}
+use Rattle.pattern.specs.Parameters.{isInRange, formOf, parametersLength, parametersBody, parametersFromBytes}
 use Rattle.pattern.specs.Frame.{frameLength, recordOf, bodyLength, bodyOf, recordLength, behindRecord, hasFrameOfLength}
 use Rattle.pattern.specs.Image.{endsInZero}
 use Rattle.pattern.specs.Reader.{fromParameters, fromCode, fromInput, fromEnd, formIn, parametersIn, parametersOf, versionLength, versionConditions, parametersConditions, codeConditions, inputConditions, endConditions, readOf, codeBodyOf, inputBodyOf}
 use Rattle.pattern.specs.Writer.{versionBody, recordsOf}
-use Rattle.pattern.specs.ParameterLaws.{parameters-length, parameters-decoded, parameters-encoded}
+use Rattle.pattern.specs.ParameterLaws.{form-known, parameters-length, parameters-decoded, parameters-encoded}
 use Rattle.pattern.specs.FrameLaws.{record-length, record-body-length, record-has-frame, record-has-frame-of-length, record-body, record-rest, frame-body-length, bytes-behind-record, bytes-of-body, frame-split}
-use Rattle.pattern.specs.ReaderLaws.{NoneRefuses, accepted-test, VersionRecord, ParametersRecord, EndRecord, AcceptedFile, accepted-file, code-body-is, input-body-is}
+use Rattle.pattern.specs.ReaderLaws.{NoneRefuses, accepted-test, VersionRecord, ParametersRecord, EndRecord, AcceptedFile, accepted-file, read-form, code-body-is, input-body-is}
 use Rattle.pattern.specs.declared.parameters.Parameters.{Parameters}
 use Rattle.pattern.specs.declared.reader.ReadResult.the-variants.{Accepted}
 
 -- ---- reading the records of a pattern
 
 -- the parameters come back
-parameters-read : (form : ℕ) (v : Parameters) (rest : List ℕ) → parametersIn form (recordOf 0x42 (parametersBytes v) ++ rest) ≡ v
-parameters-read form v rest = ap parametersFromBytes (record-body 0x42 (parametersBytes v) rest) ∙ parameters-decoded v
+parameters-read : (v : Parameters) (rest : List ℕ) → parametersIn (recordOf 0x42 (parametersBody v) ++ rest) ≡ v
+parameters-read v rest = ap parametersFromBytes (record-body 0x42 (parametersBody v) rest) ∙ parameters-decoded v
 
 -- no condition holds of a record that was written
 version-none : (v : Parameters) (rest : List ℕ) → NoneHolds (versionConditions (recordOf 0x56 (versionBody v) ++ rest))
 unfolding versionConditions
 version-none v rest =
     let body : bodyOf (recordOf 0x56 (versionBody v) ++ rest) ≡ versionBody v = record-body 0x56 (versionBody v) rest in
-    (ap not (record-has-frame-of-length 0x56 (versionBody v) rest), (simp body, (simp body, tt)))
+    (ap not (record-has-frame-of-length 0x56 (versionBody v) rest), (simp body (form-known v), (simp body, tt)))
 
-parameters-none : (form : ℕ) (v : Parameters) (rest : List ℕ) → isInRange v ≡ true → NoneHolds (parametersConditions form (recordOf 0x42 (parametersBytes v) ++ rest))
+parameters-none : (v : Parameters) (rest : List ℕ) → isInRange v ≡ true → NoneHolds (parametersConditions (formOf v) (recordOf 0x42 (parametersBody v) ++ rest))
 unfolding parametersConditions
-parameters-none form v rest range =
-    let whole = ap (λ (n : ℕ). not (hasFrameOfLength 0x42 n (recordOf 0x42 (parametersBytes v) ++ rest))) (sym (parameters-length v)) in
-    (whole ∙ ap not (record-has-frame-of-length 0x42 (parametersBytes v) rest), (simp (parameters-read form v rest, range), tt))
+parameters-none v rest range =
+    let whole = ap (λ (n : ℕ). not (hasFrameOfLength 0x42 n (recordOf 0x42 (parametersBody v) ++ rest))) (sym (parameters-length v)) in
+    let read : parametersIn (recordOf 0x42 (parametersBody v) ++ rest) ≡ v = parameters-read v rest in
+    (whole ∙ ap not (record-has-frame-of-length 0x42 (parametersBody v) rest), (simp (read, range), (simp (read, eq-eqb (formOf v) (formOf v) refl), tt)))
 
 code-none : (v : Parameters) (code rest : List ℕ) → length code ≤ v .layout .window → endsInZero code ≡ false
     → NoneHolds (codeConditions v (recordOf 0x43 code ++ rest))
@@ -61,12 +62,12 @@ module _ (v : Parameters) (code input : List ℕ) (range : isInRange v ≡ true)
   abbrev writtenFile : List ℕ
   writtenFile = recordsOf v code input
 
-  from-parameters : fromParameters writtenFile ≡ recordOf 0x42 (parametersBytes v) ++ (recordOf 0x43 code ++ (recordOf 0x49 input ++ (recordOf 0x45 [] ++ [])))
+  from-parameters : fromParameters writtenFile ≡ recordOf 0x42 (parametersBody v) ++ (recordOf 0x43 code ++ (recordOf 0x49 input ++ (recordOf 0x45 [] ++ [])))
   unfolding recordsOf
   from-parameters = record-rest 0x56 (versionBody v) _
 
   from-code : fromCode writtenFile ≡ recordOf 0x43 code ++ (recordOf 0x49 input ++ (recordOf 0x45 [] ++ []))
-  from-code = ap behindRecord from-parameters ∙ record-rest 0x42 (parametersBytes v) _
+  from-code = ap behindRecord from-parameters ∙ record-rest 0x42 (parametersBody v) _
 
   from-input : fromInput writtenFile ≡ recordOf 0x49 input ++ (recordOf 0x45 [] ++ [])
   from-input = ap behindRecord from-code ∙ record-rest 0x43 code _
@@ -75,14 +76,18 @@ module _ (v : Parameters) (code input : List ℕ) (range : isInRange v ≡ true)
   from-end = ap behindRecord from-input ∙ record-rest 0x49 input _
 
   parameters-of : parametersOf writtenFile ≡ v
-  parameters-of = ap (parametersIn (formIn writtenFile)) from-parameters ∙ parameters-read (formIn writtenFile) v _
+  parameters-of = ap parametersIn from-parameters ∙ parameters-read v _
+
+  form-of-records : formIn writtenFile ≡ formOf v
+  unfolding recordsOf
+  form-of-records = ap (λ (body : List ℕ). getD body 0 0) (record-body 0x56 (versionBody v) _)
 
   file-accepted : NoneRefuses writtenFile v
   unfolding recordsOf
   file-accepted =
       record {
         version = version-none v _;
-        parameters = subst⁻¹ (λ (s : List ℕ). NoneHolds (parametersConditions (formIn writtenFile) s)) from-parameters (parameters-none (formIn writtenFile) v _ range);
+        parameters = subst⁻¹ (λ (form : ℕ). NoneHolds (parametersConditions form (fromParameters writtenFile))) form-of-records (subst⁻¹ (λ (s : List ℕ). NoneHolds (parametersConditions (formOf v) s)) from-parameters (parameters-none v _ range));
         code = subst⁻¹ (λ (w : Parameters). NoneHolds (codeConditions w (fromCode writtenFile))) parameters-of (subst⁻¹ (λ (s : List ℕ). NoneHolds (codeConditions v s)) from-code (code-none v code _ small ends));
         input = subst⁻¹ (λ (w : Parameters). NoneHolds (inputConditions w (fromInput writtenFile))) parameters-of (subst⁻¹ (λ (s : List ℕ). NoneHolds (inputConditions v s)) from-input (input-none v input _ few));
         end = subst⁻¹ (λ (s : List ℕ). NoneHolds (endConditions s)) from-end end-none;
@@ -102,13 +107,13 @@ module _ (v : Parameters) (code input : List ℕ) (range : isInRange v ≡ true)
 
 -- ---- the records of an accepted file
 
-version-body : (s : List ℕ) → VersionRecord s → bodyOf s ≡ 1 ∷ 1 ∷ []
-version-body s f =
-    list-tabulated versionLength (bodyOf s) (frame-body-length 0x56 s (f .frame) ∙ f .size) ∙ (λ j. f .form j ∷ f .board j ∷ [])
+version-body : (s : List ℕ) (v : Parameters) → VersionRecord s → formIn s ≡ formOf v → bodyOf s ≡ versionBody v
+version-body s v f form =
+    list-tabulated versionLength (bodyOf s) (frame-body-length 0x56 s (f .frame) ∙ f .size) ∙ (λ j. form j ∷ f .board j ∷ [])
 
-parameters-body : (form : ℕ) (s : List ℕ) → AllBytes s → ParametersRecord form s → bodyOf s ≡ parametersBytes (parametersIn form s)
+parameters-body : (form : ℕ) (s : List ℕ) → AllBytes s → ParametersRecord form s → bodyOf s ≡ parametersBody (parametersIn s)
 parameters-body form s bytes f =
-    sym (parameters-encoded form (bodyOf s) (frame-body-length 0x42 s (f .frame) ∙ f .size) (bytes-of-body s bytes))
+    sym (parameters-encoded (bodyOf s) (frame-body-length 0x42 s (f .frame) ∙ f .size ∙ ap parametersLength (sym (f .same-form))) (bytes-of-body s bytes))
 
 end-alone : (s : List ℕ) → AllBytes s → EndRecord s → s ≡ recordOf 0x45 [] ++ []
 unfolding behindRecord
@@ -145,12 +150,12 @@ module _ (s : List ℕ) (v : Parameters) (bytes : AllBytes s) (accepted : readOf
       ∙ ap (λ (l : List ℕ). recordOf 0x43 (bodyOf (fromCode s)) ++ l) input-part
       ∙ ap (λ (l : List ℕ). recordOf 0x43 l ++ (recordOf 0x49 (inputBodyOf s) ++ (recordOf 0x45 [] ++ []))) (sym (code-body-is s v accepted))
 
-  parameters-part : fromParameters s ≡ recordOf 0x42 (parametersBytes v) ++ (recordOf 0x43 (codeBodyOf s) ++ (recordOf 0x49 (inputBodyOf s) ++ (recordOf 0x45 [] ++ [])))
+  parameters-part : fromParameters s ≡ recordOf 0x42 (parametersBody v) ++ (recordOf 0x43 (codeBodyOf s) ++ (recordOf 0x49 (inputBodyOf s) ++ (recordOf 0x45 [] ++ [])))
   parameters-part =
       frame-split 0x42 (fromParameters s) parameters-are-bytes (asAccepted .parameters .frame)
       ∙ ap (λ (l : List ℕ). recordOf 0x42 (bodyOf (fromParameters s)) ++ l) code-part
       ∙ ap (λ (l : List ℕ). recordOf 0x42 l ++ (recordOf 0x43 (codeBodyOf s) ++ (recordOf 0x49 (inputBodyOf s) ++ (recordOf 0x45 [] ++ []))))
-      (parameters-body (formIn s) (fromParameters s) parameters-are-bytes (asAccepted .parameters) ∙ ap parametersBytes (asAccepted .same))
+      (parameters-body (formIn s) (fromParameters s) parameters-are-bytes (asAccepted .parameters) ∙ ap parametersBody (asAccepted .same))
 
   pub records-again : recordsOf v (codeBodyOf s) (inputBodyOf s) ≡ s
   unfolding recordsOf
@@ -158,6 +163,6 @@ module _ (s : List ℕ) (v : Parameters) (bytes : AllBytes s) (accepted : readOf
       sym (
       frame-split 0x56 s bytes (asAccepted .version .frame)
       ∙ ap (λ (l : List ℕ). recordOf 0x56 (bodyOf s) ++ l) parameters-part
-      ∙ ap (λ (l : List ℕ). recordOf 0x56 l ++ (recordOf 0x42 (parametersBytes v) ++ (recordOf 0x43 (codeBodyOf s) ++ (recordOf 0x49 (inputBodyOf s) ++ (recordOf 0x45 [] ++ [])))))
-      (version-body s (asAccepted .version))
+      ∙ ap (λ (l : List ℕ). recordOf 0x56 l ++ (recordOf 0x42 (parametersBody v) ++ (recordOf 0x43 (codeBodyOf s) ++ (recordOf 0x49 (inputBodyOf s) ++ (recordOf 0x45 [] ++ [])))))
+      (version-body s v (asAccepted .version) (read-form s v accepted))
       )

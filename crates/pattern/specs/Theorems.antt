@@ -1,4 +1,4 @@
--- Laws that the checker has shown: each pattern has exactly one file, of 31 to 36,895 bytes.
+-- Laws that the checker has shown: each pattern has exactly one file, of 31 to 36,897 bytes.
 -- They are over the definitions that the contracts of `read`, `code_body`, `input_body` and `write` cite (Reader.antt, Writer.antt).
 use Prim.Native.Nat.{ℕ, _+_, _-_, _≤_}
 use mathlib.Core.Bool.{true}
@@ -10,10 +10,11 @@ use lib.Seq.{take-at}
 use Rattle.slices.specs.Slices.{AllBytes}
 use Rattle.pattern.specs.Parameters.{isInRange, formOf}
 use Rattle.pattern.specs.Image.{trim, padded, endsInZero}
-use Rattle.pattern.specs.Reader.{parametersOf, readOf, codeBodyOf, inputBodyOf, imageOf, IsFile}
+use Rattle.pattern.specs.Reader.{formIn, parametersOf, readOf, codeBodyOf, inputBodyOf, imageOf, IsFile}
 use Rattle.pattern.specs.Writer.{recordsOf, smallestLength, fileOf, writeOf, bufferAfter, writtenBuffer}
+use Rattle.pattern.specs.ParameterLaws.{form-plain, form-one-plain, plain-length, locked-length, parameters-least, parameters-most}
 use Rattle.pattern.specs.ImageLaws.{trim-short, trim-ends, trim-kept, replicate-ends, padded-trim, padded-length, trim-padded}
-use Rattle.pattern.specs.ReaderLaws.{accepted-file, read-in-range, read-ranges, code-fits, input-fits, code-ends}
+use Rattle.pattern.specs.ReaderLaws.{accepted-file, read-form, read-in-range, read-ranges, code-fits, input-fits, code-ends}
 use Rattle.pattern.specs.WriterLaws.{file-length, written-accepted, accepted-written}
 use Rattle.pattern.specs.RoundTripLaws.{read-records, code-of-records, input-of-records, records-again}
 use Rattle.pattern.specs.declared.parameters.Parameters.{Parameters}
@@ -94,10 +95,17 @@ module _ (s : List ℕ) (v : Parameters) (bytes : AllBytes s) (accepted : readOf
   accepted-length = sym (ap length (records-again s v bytes accepted)) ∙ file-length v (codeBodyOf s) (inputBodyOf s)
 
   pub smallest : 31 ≤ length s
-  smallest = omega (arith, accepted-length)
+  smallest = omega (arith, accepted-length, parameters-least (formOf v))
 
-  pub largest : length s ≤ 36895
-  largest = omega (arith, accepted-length, read-ranges s v accepted, code-fits s v accepted, input-fits s v accepted)
+  pub largest : length s ≤ 36897
+  largest = omega (arith, accepted-length, parameters-most (formOf v), read-ranges s v accepted, code-fits s v accepted, input-fits s v accepted)
+
+-- the form of an accepted file is that of its pattern: 1 exactly if nothing is locked
+pub form-of-file : (s : List ℕ) (v : Parameters) → readOf s ≡ Accepted v
+    → (formIn s ≡ formOf v) × ((formIn s ≡ 1 → v .layout .locked ≡ 0) × (v .layout .locked ≡ 0 → formIn s ≡ 1))
+form-of-file s v accepted =
+    let form : formIn s ≡ formOf v = read-form s v accepted in
+    (form, (λ one. form-one-plain v (sym form ∙ one), λ none. form ∙ form-plain v none))
 
 -- two accepted files of one pattern are the same file
 pub one-file : (s t : List ℕ) (v : Parameters) (image input : List ℕ) → AllBytes s → AllBytes t → IsFile s v image input → IsFile t v image input → s ≡ t
@@ -108,25 +116,26 @@ one-file s t v image input bs bt hs ht =
     let first-input : inputBodyOf s ≡ inputBodyOf t = hs .first-input ∙ sym (ht .first-input) in
     sym es ∙ ap (λ (x : List ℕ). fileOf v x (inputBodyOf s)) window ∙ ap (fileOf v (imageOf t)) first-input ∙ et
 
--- both bounds are reached: by a window of zeros without input, and by the largest window, with no zero in it, and the largest input
-pub smallest-reached : (v : Parameters) → isInRange v ≡ true
+-- both bounds are reached: by a window of zeros without input, if nothing is locked; and by the largest window, with no zero in it, and the
+-- largest input, if something is
+pub smallest-reached : (v : Parameters) → isInRange v ≡ true → v .layout .locked ≡ 0
     → IsFile (fileOf v (replicate (v .layout .window) 0) []) v (replicate (v .layout .window) 0) [] × (length (fileOf v (replicate (v .layout .window) 0) []) ≡ 31)
 unfolding endsInZero
-smallest-reached v range =
+smallest-reached v range none =
     let n : ℕ = v .layout .window in
     let k : n ≡ n - 0 = omega arith in
-    let none : trim (replicate n 0) ≡ [] = ap (λ (i : ℕ). trim (replicate i 0)) k ∙ trim-padded n [] refl in (
+    let empty : trim (replicate n 0) ≡ [] = ap (λ (i : ℕ). trim (replicate i 0)) k ∙ trim-padded n [] refl in (
       file-is-file v (replicate n 0) [] range (length-replicate n 0) (omega arith),
-      file-length v (trim (replicate n 0)) [] ∙ ap (λ (code : List ℕ). smallestLength (formOf v) + length code + 0) none,
+      file-length v (trim (replicate n 0)) [] ∙ (omega (arith, ap length empty, plain-length v none)),
     )
 
-pub largest-reached : (v : Parameters) → isInRange v ≡ true → v .layout .window ≡ 32768 → v .layout .input ≡ 4096
+pub largest-reached : (v : Parameters) → isInRange v ≡ true → v .layout .window ≡ 32768 → v .layout .input ≡ 4096 → (v .layout .locked ≡ 0 → ⊥)
     → IsFile (fileOf v (replicate (v .layout .window) 1) (replicate (v .layout .input) 0)) v (replicate (v .layout .window) 1) (replicate (v .layout .input) 0)
-    × (length (fileOf v (replicate (v .layout .window) 1) (replicate (v .layout .input) 0)) ≡ 36895)
-largest-reached v range window input =
+    × (length (fileOf v (replicate (v .layout .window) 1) (replicate (v .layout .input) 0)) ≡ 36897)
+largest-reached v range window input some =
     let image : List ℕ = replicate (v .layout .window) 1 in
     let given : List ℕ = replicate (v .layout .input) 0 in
     let size : length image ≡ v .layout .window = length-replicate (v .layout .window) 1 in
     let count : length given ≡ v .layout .input = length-replicate (v .layout .input) 0 in
     let full : length (trim image) ≡ length image = ap length (trim-kept image (replicate-ends (v .layout .window) 1 (λ e. omega arith))) in
-    (file-is-file v image given range size (omega arith), file-length v (trim image) given ∙ (omega arith))
+    (file-is-file v image given range size (omega arith), file-length v (trim image) given ∙ (omega (arith, locked-length v some)))

@@ -1,4 +1,5 @@
--- Definitions that must be believed: writing a pattern file (document 01, "Pattern file, form 1" and "Turned back, by place").
+-- Definitions that must be believed: writing a pattern file (document 01, "Pattern file, form 1" and "Turned back, by place";
+-- document 02, U6: form 2).
 use Prim.Native.Nat.{ℕ, _+_, _*_}
 use mathlib.Core.Bool.{not}
 use mathlib.Core.List.{List, [], _∷_, _++_}
@@ -6,7 +7,7 @@ use lib.ListN.{length, drop}
 use lib.Dec.{ltb, eqb}
 use Rattle.slices.specs.Slices.{concat}
 use Rattle.common.specs.Refusals.{Condition, _gives_, unless}
-use Rattle.pattern.specs.Parameters.{isInRange, formOf, parametersLength, parametersBytes}
+use Rattle.pattern.specs.Parameters.{isInRange, formOf, parametersLength, parametersBody}
 use Rattle.pattern.specs.Frame.{frameLength, recordOf}
 use Rattle.pattern.specs.Image.{trim}
 use Rattle.pattern.specs.Reader.{versionLength}
@@ -23,7 +24,7 @@ unfoldable pub recordsOf : Parameters → List ℕ → List ℕ → List ℕ
 recordsOf p code input =
     concat (
     recordOf 0x56 (versionBody p)
-    ∷ recordOf 0x42 (parametersBytes p)
+    ∷ recordOf 0x42 (parametersBody p)
     ∷ recordOf 0x43 code
     ∷ recordOf 0x49 input
     ∷ recordOf 0x45 []

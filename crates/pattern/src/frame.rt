@@ -11,8 +11,10 @@ ghost use lib.ListN.{length};
 ghost use Rattle.slices.specs.Slices.{copied};
 ghost use Rattle.pattern.specs.Frame.{frameLength, recordOf, bodyLength, bodyOf, recordLength, behindRecord, hasFrame, hasFrameOfLength};
 
-// What `PV` holds: the form and the board.
-pub(crate) const FORM: u8 = 1;
+// What `PV` holds: the form, of a file in which nothing is locked and of one with a locked length, and the board.
+pub(crate) const PLAIN_FORM: u8 = 1;
+
+pub(crate) const LOCKED_FORM: u8 = 2;
 
 pub(crate) const BOARD: u8 = 1;
 

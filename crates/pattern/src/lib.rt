@@ -1,4 +1,4 @@
-// Pattern files of form 1: reading, the two bodies, writing. A pattern is the parameters of a partition, the window's bytes and a
+// Pattern files of forms 1 and 2: reading, the two bodies, writing. A pattern is the parameters of a partition, the window's bytes and a
 // first input; each has exactly one file (specs/Theorems.antt).
 mod frame;
 mod image;

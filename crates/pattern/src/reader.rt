@@ -1,7 +1,8 @@
 // Reading a pattern file: each record's frame, then its body, then the next record.
 use crate::frame::BOARD;
-use crate::frame::FORM;
 use crate::frame::FRAME_LENGTH;
+use crate::frame::LOCKED_FORM;
+use crate::frame::PLAIN_FORM;
 use crate::frame::VERSION_LENGTH;
 use crate::frame::behind_record;
 use crate::frame::body;
@@ -12,7 +13,9 @@ use crate::frame::record_length;
 use crate::image::ends_in_zero;
 use crate::parameters::Parameters;
 use crate::parameters::decode_parameters;
+use crate::parameters::form_of;
 use crate::parameters::is_in_range;
+use crate::parameters::parameters_length;
 use common::Address;
 use common::Layout;
 use slices::byte;
@@ -21,7 +24,7 @@ ghost use mathlib.Core.List.{[]};
 ghost use mathlib.Core.Path.{_≡_};
 ghost use Rattle.common.specs.Refusals.{unless};
 ghost use Rattle.pattern.specs.Frame.{bodyOf};
-ghost use Rattle.pattern.specs.Reader.{noParameters, parametersIn, versionConditions, parametersConditions, codeConditions, inputConditions, endConditions, readOf, readRefusal, ifAccepted, codeBodyOf, inputBodyOf, codeOffset, inputOffset};
+ghost use Rattle.pattern.specs.Reader.{formIn, boardIn, noParameters, parametersIn, versionConditions, parametersConditions, codeConditions, inputConditions, endConditions, readOf, readRefusal, ifAccepted, codeBodyOf, inputBodyOf, codeOffset, inputOffset};
 
 // The parameters, or the number of the refusal.
 pub enum ReadResult {
@@ -41,6 +44,19 @@ impl ReadResult {
     }
 }
 
+// The form that `PV` at the front of `s` names, and the board.
+fn form_in(s: &[u8]) -> u8
+    ensures { λ r. ⌜ r ≡ formIn (now (s .entry)) ⌝ }
+{
+    byte(body(s), 0)
+}
+
+fn board_in(s: &[u8]) -> u8
+    ensures { λ r. ⌜ r ≡ boardIn (now (s .entry)) ⌝ }
+{
+    byte(body(s), 1)
+}
+
 // The record `PV` at the front of `s`.
 fn read_version(s: &[u8]) -> ReadResult
     ensures { λ r. ⌜ r ≡ unless ReadResult.Refused (versionConditions (now (s .entry))) (ReadResult.Accepted noParameters) ⌝ }
@@ -48,17 +64,19 @@ fn read_version(s: &[u8]) -> ReadResult
     if !has_frame_of_length(s, b'V', VERSION_LENGTH) {
         return ReadResult::Refused(6);
     }
-    let named = body(s);
-    if byte(named, 0) != FORM {
+    let form = form_in(s);
+    let board = board_in(s);
+    if (form != PLAIN_FORM) & (form != LOCKED_FORM) {
         return ReadResult::Refused(7);
     }
-    if byte(named, 1) != BOARD {
+    if board != BOARD {
         return ReadResult::Refused(8);
     }
     let layout = Layout {
         window: 0,
         input: 0,
         output: 0,
+        locked: 0,
     };
     ReadResult::Accepted(Parameters {
         layout,
@@ -67,15 +85,19 @@ fn read_version(s: &[u8]) -> ReadResult
     })
 }
 
-// The record `PB` at the front of `s`.
-fn read_parameters(s: &[u8]) -> ReadResult
-    ensures { λ r. ⌜ r ≡ unless ReadResult.Refused (parametersConditions 1 (now (s .entry))) (ReadResult.Accepted (parametersIn 1 (now (s .entry)))) ⌝ }
+// The record `PB` at the front of `s`, in a file of that form.
+fn read_parameters(s: &[u8], form: u8) -> ReadResult
+    ensures { λ r. ⌜ r ≡ unless ReadResult.Refused (parametersConditions form (now (s .entry))) (ReadResult.Accepted (parametersIn (now (s .entry)))) ⌝ }
 {
-    if !has_frame_of_length(s, b'B', Parameters::LENGTH) {
+    if !has_frame_of_length(s, b'B', parameters_length(form)) {
         return ReadResult::Refused(6);
     }
     let parameters = decode_parameters(body(s));
     if !is_in_range(parameters) {
+        return ReadResult::Refused(9);
+    }
+    // Form 2 with nothing locked: that pattern has a file of form 1.
+    if form_of(parameters) != form {
         return ReadResult::Refused(9);
     }
     ReadResult::Accepted(parameters)
@@ -134,7 +156,7 @@ pub fn read(file: &[u8]) -> ReadResult
         return first;
     };
     let from_parameters = behind_record(file);
-    let second = read_parameters(from_parameters);
+    let second = read_parameters(from_parameters, form_in(file));
     let ReadResult::Accepted(parameters) = second else {
         return second;
     };

@@ -44,6 +44,7 @@ fn same_partition(p: Partition, want: &[u8]) -> bool {
         & (layout.input == u16_at(want, 4))
         & (layout.output == u16_at(want, 6))
         & (p.quantum as u16 == u16_at(want, 8))
+        & (layout.locked == u16_at(want, 54))
 }
 
 fn same_slot(s: Slot, want: &[u8]) -> bool {
@@ -72,13 +73,13 @@ pub(crate) fn same_free(t: Table, free: u32, widest: &[u8]) -> bool {
 pub(crate) fn same_slots(t: Table, want: &[u8]) -> bool {
     let s = t.slots;
     same_slot(s[0], want)
-        & same_slot(s[1], rest(want, 54))
-        & same_slot(s[2], rest(want, 108))
-        & same_slot(s[3], rest(want, 162))
-        & same_slot(s[4], rest(want, 216))
-        & same_slot(s[5], rest(want, 270))
-        & same_slot(s[6], rest(want, 324))
-        & same_slot(s[7], rest(want, 378))
+        & same_slot(s[1], rest(want, 56))
+        & same_slot(s[2], rest(want, 112))
+        & same_slot(s[3], rest(want, 168))
+        & same_slot(s[4], rest(want, 224))
+        & same_slot(s[5], rest(want, 280))
+        & same_slot(s[6], rest(want, 336))
+        & same_slot(s[7], rest(want, 392))
 }
 
 pub(crate) fn same_report(r: Report, want: &[u8]) -> bool {
@@ -101,6 +102,9 @@ fn layout_with_field(l: Layout, field: u16, entry: &[u8]) -> Layout {
         }
         3 => {
             next.output = value16(entry);
+        }
+        27 => {
+            next.locked = value16(entry);
         }
         _ => {}
     }
@@ -186,13 +190,13 @@ fn state_with_field(s: State, field: u16, entry: &[u8]) -> State {
 fn with_number(t: Table, field: u16, entry: &[u8]) -> Table {
     let mut next = t;
     match field {
-        27 => {
+        28 => {
             next.size = value32(entry);
         }
-        28 => {
+        29 => {
             next.free = value32(entry);
         }
-        29 => {
+        30 => {
             next.widest = value32(entry);
         }
         _ => {}

@@ -3,6 +3,7 @@
 mod crc;
 mod entry;
 mod fields;
+mod files;
 mod lending;
 
 use crate::crc::crc32;
@@ -20,6 +21,15 @@ use crate::fields::same_free;
 use crate::fields::same_report;
 use crate::fields::same_slots;
 use crate::fields::with_field;
+use crate::files::file;
+use crate::files::image_length;
+use crate::files::input_length;
+use crate::files::parameters;
+use crate::files::same_read;
+use crate::files::same_written;
+use crate::files::spread_image;
+use crate::files::spread_input;
+use crate::files::written_count;
 use crate::lending::drain_loan;
 use common::Location;
 use libc::STDOUT_FILENO;
@@ -193,6 +203,50 @@ fn fit_entry(script: ScriptState, entry: &[u8]) -> EntryResult {
     }
 }
 
+// The reader and the writer take no table.
+fn read_entry(script: ScriptState, entry: &[u8]) -> EntryResult {
+    let answer = pattern::read(file(entry));
+    let refusal = answer.refusal();
+    EntryResult {
+        script,
+        same: (refusal as u16 == wanted(entry)) & same_read(entry, answer),
+        refusal,
+    }
+}
+
+// Into the front of a buffer, which is compared by its check sum.
+fn write_into(script: ScriptState, entry: &[u8], buffer: &mut [u8]) -> EntryResult {
+    let n = number(entry);
+    if buffer.len() < n {
+        return result_without_call(script, false);
+    }
+    let mut image = [0u8; 32769];
+    let mut input = [0u8; 4096];
+    spread_image(entry, &mut image);
+    spread_input(entry, &mut input);
+    let answer = pattern::write(
+        parameters(entry),
+        front(&image, image_length(entry)),
+        front(&input, input_length(entry)),
+        &mut buffer[..n],
+    );
+    let refusal = answer.refusal();
+    let count = written_count(answer);
+    EntryResult {
+        script,
+        same: (refusal as u16 == wanted(entry))
+            & (count == wanted_count(entry) as usize)
+            & same_written(entry, buffer),
+        refusal,
+    }
+}
+
+// The buffer has room for the longest file, and starts as EEh throughout.
+fn write_entry(script: ScriptState, entry: &[u8]) -> EntryResult {
+    let mut buffer = [238u8; 36897];
+    write_into(script, entry, &mut buffer)
+}
+
 // One call, with the memory that it is lent.
 fn call_entry(script: ScriptState, memory: &mut [u8], entry: &[u8]) -> EntryResult {
     let table = script.table;
@@ -225,6 +279,8 @@ fn call_entry(script: ScriptState, memory: &mut [u8], entry: &[u8]) -> EntryResu
         12 => filling_entry(script, memory, entry),
         13 => filling_entry(script, memory, entry),
         14 => fit_entry(script, entry),
+        16 => read_entry(script, entry),
+        17 => write_entry(script, entry),
         _ => result_without_call(script, false),
     }
 }
@@ -359,7 +415,7 @@ fn run_all(entries: &[u8], memory: &mut [u8]) -> Tally {
     let start = begin_script(memory);
     let mut script = start.script;
     let mut at: usize = 0;
-    while at < 524288 {
+    while at < 655360 {
         if entries.len() <= at {
             return tally;
         }
@@ -382,7 +438,7 @@ fn main() {
         os::fail(path);
         return;
     }
-    let mut data = [0u8; 524288];
+    let mut data = [0u8; 655360];
     let n = io::read_full(fd, &mut data);
     libc::close(fd);
     let mut memory = [0u8; 65537];

@@ -135,6 +135,12 @@ part-tabulated (suc n) s at h =
     in
     (λ j. first j ∷ others j) ∙ sym (ap (take (suc n)) (drop-cons s at 0 (omega arith)))
 
+-- what holds of each element of a tabulated list, and of what stands past its end, holds wherever it is read
+pub each-tabulated : {A : Type 0} (P : A → Type 0) (n : ℕ) (f : ℕ → A) (none : A) → P none → ((i : ℕ) → i < n → P (f i)) → (k : ℕ) → P (getD (tabulate n f) k none)
+each-tabulated P zero f none past each k = past
+each-tabulated P (suc n) f none past each zero = each 0 (omega arith)
+each-tabulated P (suc n) f none past each (suc k) = each-tabulated P n (λ i. f (suc i)) none past (λ i q. each (suc i) (omega arith)) k
+
 -- and so is a list of that length
 pub list-tabulated : (n : ℕ) (s : List ℕ) → length s ≡ n → s ≡ tabulate n (λ i. getD s i 0)
 list-tabulated zero [] h = refl

@@ -11,11 +11,12 @@ pub mod Running
 pub mod Calls
 pub mod Events
 pub mod Isolation
+pub mod LockKept
 pub mod FitThenLoad
 -- Names for lists of definitions.
 pub mod CallDefinitions
--- Laws that the checker has shown: IsolationTheorem is demand 3, FitThenLoadTheorem what becomes of a load after a fit; the others carry
--- these.
+-- Laws that the checker has shown: IsolationTheorem is demand 3, LockTheorem what becomes of locked bytes, FitThenLoadTheorem what becomes of
+-- a load after a fit; the others carry these.
 pub mod ConditionLaws
 pub mod SlotMachineLaws
 pub mod PatchLaws
@@ -23,4 +24,5 @@ pub mod RoundLaws
 pub mod OutcomeLaws
 pub mod ChangeLaws
 pub mod IsolationTheorem
+pub mod LockTheorem
 pub mod FitThenLoadTheorem

@@ -99,7 +99,7 @@ module _ (x : System) (g : SoundSystem x) (k : ℕ) (q : k < 8) where
     next-has-layout =
         let z = slot-has-layout (slotOf x k) (x .memory) slot-fits-memory in
         let t = times-sizes _ (machineIn (slotOf x k) (x .memory)) in
-        record { window = t .window ∙ z .window; input = t .input ∙ z .input; output = t .output ∙ z .output }
+        record { locked = t .locked ∙ z .locked; window = t .window ∙ z .window; input = t .input ∙ z .input; output = t .output ∙ z .output }
 
     next-sound : StateSound (slotOf x k .partition .layout) (nextMachine .state)
     next-sound =

@@ -2,7 +2,7 @@
 -- written elsewhere.
 use mathlib.Core.List.{List, _++_, append-assoc}
 use mathlib.Core.Logic.{_⊎_, inl, inr}
-use mathlib.Core.Path.{_≡_, sym, ap, _∙_}
+use mathlib.Core.Path.{_≡_, refl, sym, ap, _∙_}
 use Prim.Native.Nat.{ℕ, _+_, _-_, _≤_}
 use native.Mathlib.Omega.{arith}
 use lib.ListN.{length, take, drop, length-append, length-drop}
@@ -22,6 +22,7 @@ use Rattle.table.specs.declared.table.Slot.{Slot}
 
 -- a machine of that layout
 pub record HasLayout (l : Layout) (m : Machine) : Type 0 where
+  pub locked : m .locked ≡ l .locked
   pub window : length (m .window) ≡ l .window
   pub input : length (m .input) ≡ l .input
   pub output : length (m .output) ≡ l .output
@@ -46,8 +47,9 @@ machine-again l m f =
     ap (take (l .output)) (drop-at (w ++ i) o (l .window + l .input) front)
     ∙ ap (λ (n : ℕ). take n o) (sym (f .output))
     ∙ take-length o in
+    let same : l .locked ≡ m .locked = sym (f .locked) in
     λ j.
-    record { state = m .state; window = first j; input = second j; output = third j }
+    record { state = m .state; locked = same j; window = first j; input = second j; output = third j }
 
 -- the bytes of a machine that is read from as many bytes are these
 pub bytes-again : (l : Layout) (z : State) (b : List ℕ) → length b ≡ layoutSize l → machineBytes (machineOf l z b) ≡ b
@@ -68,6 +70,7 @@ slot-has-layout s memory h =
     let second : length (drop (l .window) b) ≡ length b - l .window = length-drop (l .window) b in
     let third : length (drop (l .window + l .input) b) ≡ length b - (l .window + l .input) = length-drop (l .window + l .input) b in
     record {
+      locked = refl;
       window = length-take-le (l .window) b (omega arith);
       input = length-take-le (l .input) (drop (l .window) b) (omega arith);
       output = length-take-le (l .output) (drop (l .window + l .input) b) (omega arith);

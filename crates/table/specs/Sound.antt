@@ -1,4 +1,4 @@
--- Definitions that must be believed: which tables are sound (document 01, "Floor and bays"; document 02, U5).
+-- Definitions that must be believed: which tables are sound (document 01, "Floor and bays"; document 02, U5 and U6).
 use Prim.Native.Nat.{ℕ}
 use lib.Dec.{eqb, leb, ltb}
 use lib.ListN.{getD, length}
@@ -56,6 +56,7 @@ isZeroPartition p =
     ∷ eqb (p .layout .window) 0
     ∷ eqb (p .layout .input) 0
     ∷ eqb (p .layout .output) 0
+    ∷ eqb (p .layout .locked) 0
     ∷ eqb (p .quantum) 0
     ∷ [])
 

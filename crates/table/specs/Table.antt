@@ -18,7 +18,7 @@ use Rattle.table.specs.declared.table.Table.{Table}
 
 -- the partition of an empty slot: no bytes, at 0
 abbrev pub emptyPartition : Partition
-emptyPartition = record { base = record { 0 = 0 }; layout = record { window = 0; input = 0; output = 0 }; quantum = 0 }
+emptyPartition = record { base = record { 0 = 0 }; layout = record { window = 0; input = 0; output = 0; locked = 0 }; quantum = 0 }
 
 -- what stands past the end of a table's slots: never met, since there are eight
 abbrev pub noSlot : Slot

@@ -81,6 +81,7 @@ fn is_zero_partition(p: Partition) -> bool
         & (layout.window == 0)
         & (layout.input == 0)
         & (layout.output == 0)
+        & (layout.locked == 0)
         & (p.quantum == 0)
 }
 

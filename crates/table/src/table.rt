@@ -25,6 +25,7 @@ impl Partition {
             window: 0,
             input: 0,
             output: 0,
+            locked: 0,
         };
         Partition {
             base: Location(0),
@@ -33,13 +34,15 @@ impl Partition {
         }
     }
 
-    // The location behind its last byte.
+    // The location behind its last byte. Every call works out many, so the layout is read field by field: a copy of its eight bytes would be
+    // one word, to be taken apart again.
     pub fn end(self) -> usize
         ensures { λ r. ⌜ r ≡ partitionEnd self ⌝ }
     {
-        let base = self.base;
-        let layout = self.layout;
-        base.0 as usize + layout.size()
+        self.base.0 as usize
+            + self.layout.window as usize
+            + self.layout.input as usize
+            + self.layout.output as usize
     }
 }
 

@@ -8,7 +8,7 @@ use slices::u16_at;
 ghost use Prim.Native.Nat.{_<_};
 
 // The length of the numbers at the front.
-const NUMBERS_LENGTH: usize = 26;
+const NUMBERS_LENGTH: usize = 28;
 
 fn name_length(entry: &[u8]) -> u16 {
     u16_at(entry, 0)
@@ -64,6 +64,7 @@ pub(crate) fn wanted_parameters(entry: &[u8]) -> Parameters {
         window: u16_at(entry, 8),
         input: u16_at(entry, 10),
         output: u16_at(entry, 12),
+        locked: u16_at(entry, 18),
     };
     Parameters {
         layout,
@@ -74,9 +75,9 @@ pub(crate) fn wanted_parameters(entry: &[u8]) -> Parameters {
 
 // The parts of the file that must be the bodies of `PC` and `PI`.
 pub(crate) fn wanted_code<'a>(entry: &[u8], file: &'a [u8]) -> &'a [u8] {
-    part(file, u16_at(entry, 18) as usize, u16_at(entry, 20) as usize)
+    part(file, u16_at(entry, 20) as usize, u16_at(entry, 22) as usize)
 }
 
 pub(crate) fn wanted_input<'a>(entry: &[u8], file: &'a [u8]) -> &'a [u8] {
-    part(file, u16_at(entry, 22) as usize, u16_at(entry, 24) as usize)
+    part(file, u16_at(entry, 24) as usize, u16_at(entry, 26) as usize)
 }

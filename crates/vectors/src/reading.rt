@@ -54,6 +54,7 @@ fn same_parameters(a: Parameters, b: Parameters) -> bool {
     (p.window == q.window)
         & (p.input == q.input)
         & (p.output == q.output)
+        & (p.locked == q.locked)
         & (start.0 == other.0)
         & (a.quantum == b.quantum)
 }
@@ -74,6 +75,7 @@ fn print_reading(before: &[u8], r: Reading) {
     print_number(b" ", layout.output as u64);
     print_number(b" ", start.0 as u64);
     print_number(b" ", parameters.quantum as u64);
+    print_number(b" ", layout.locked as u64);
     print_number(b" bodies ", r.code as u64);
     print_number(b" ", r.input as u64);
     print(b"\n");

@@ -10,7 +10,7 @@ abbrev Inv-loop : tie.InvT-loop
 Inv-loop entries memory₀ tally₀ script₀ at₀ memory tally script at = length memory ≡ length memory₀
 
 abbrev μ-loop : tie.MeasureT-loop
-μ-loop entries memory₀ tally₀ script₀ at₀ memory tally script at = 524288 - at
+μ-loop entries memory₀ tally₀ script₀ at₀ memory tally script at = 655360 - at
 
 begin-script-requires : tie.Need-begin-script-requires Inv-loop μ-loop
 begin-script-requires c κs = tt

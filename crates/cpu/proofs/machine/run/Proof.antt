@@ -116,7 +116,7 @@ returns c = let here = c .before .before .before .before .loop in
     let last : machineOf (args .layout) s (here .partition) ≡ after =
     sym (machine-by-bounds-law (args .layout) (args .state) s (start .result) _ (here .k) (here .partition) (start .ensures .0) refl)
     ∙ ap (λ (n : Cpu). machineByBounds (args .state) (start .result) n (here .status) (here .k) (here .partition)) (c .before .before .unpack .ensures) in
-    let past : start .result .end ≡ args .layout .window + args .layout .input + args .layout .output = bounds-end-law _ _ _ _ _ _ (start .ensures .0) in (
+    let past : start .result .end ≡ args .layout .window + args .layout .input + args .layout .output = bounds-end-law _ _ _ _ (start .ensures .0) in (
       last ∙ done ∙ ap (times (args .steps) machineStep) first,
       ap (λ (n : ℕ). drop n (here .partition)) (sym past) ∙ here .inv .5 ∙ ap (λ (n : ℕ). drop n (args .partition .now)) past,
     )

@@ -1,7 +1,9 @@
+use borrow.Author.Tests.{le-ltb, lt-ltb}
 use Prim.Native.Nat.{_%_}
 use Rattle.cpu.proofs.PackedCpuLaws.{stored-byte}
 use Rattle.cpu.specs.PackedCpu.{operandResultOf}
-use Rattle.cpu.specs.Operand.{operateOnOperandOf}
+use Rattle.common.specs.Choice.{if_then_else_}
+use Rattle.cpu.specs.Operand.{isLocked, operateOnOperandOf}
 use mathlib.Core.Path.{_∙_, _≡_, ap, sym}
 use native.Mathlib.Omega.{arith}
 use borrow.Author.Needs.{needs}
@@ -40,21 +42,37 @@ operated-requires c κs = search needs
 enum-told-2 : tie.Need-enum-told-2
 enum-told-2 c = search needs
 
+cast-if1 : tie.Need-cast-if1
+cast-if1 c = search needs
+
+stopped-requires-2 : tie.Need-stopped-requires-2
+stopped-requires-2 c κs = search needs
+
+returns-2 : tie.Need-returns-2
+unfolding operateOnOperandOf isLocked if_then_else_
+returns-2 c =
+    rw (
+      sym (c .before .before .before .before .before .before .before .before .before .operand-of .ensures) ∙ ap (operandResultOf _) (c .before .before .before .before .before .before .before .b .given .1),
+      c .before .before .before .enum-told2 .given .1,
+      lt-ltb _ _ (c .before .if1 .taken),
+      ← c .stopped2 .ensures,
+    )
+
 register-requires : tie.Need-register-requires
 register-requires c κs = search needs
 
-cast-t15 : tie.Need-cast-t15
-cast-t15 c = search needs
+cast-t18 : tie.Need-cast-t18
+cast-t18 c = search needs
 
-cast-t16 : tie.Need-cast-t16
-cast-t16 c = search needs
+cast-t19 : tie.Need-cast-t19
+cast-t19 c = search needs
 
 step-result-requires : tie.Need-step-result-requires
 step-result-requires c κs = search needs
 
-returns-2 : tie.Need-returns-2
-unfolding operateOnOperandOf
-returns-2 c =
+returns-3 : tie.Need-returns-3
+unfolding operateOnOperandOf isLocked if_then_else_
+returns-3 c =
     rw (
       sym (c .before .before .before .before .before .before .before .before .operand-of .ensures) ∙ ap (operandResultOf _) (c .before .before .before .before .before .before .b .given .1),
       c .before .before .access .given .1,
@@ -62,14 +80,15 @@ returns-2 c =
       ← c .operated .ensures,
     )
 
-returns-3 : tie.Need-returns-3
-unfolding operateOnOperandOf
-returns-3 c =
+returns-4 : tie.Need-returns-4
+unfolding operateOnOperandOf isLocked if_then_else_
+returns-4 c =
     let e : c .before .before .register .result % 256 ≡ c .before .before .register .result = omega (arith, c .before .before .register .ok) in
     rw (
-      sym (c .before .before .before .before .before .before .before .before .before .operand-of .ensures) ∙ ap (operandResultOf _) (c .before .before .before .before .before .before .before .b .given .1),
-      c .before .before .before .enum-told2 .given .1,
-      ← c .before .before .before .before .before .data-register .ensures .0,
+      sym (c .before .before .before .before .before .before .before .before .before .before .before .operand-of .ensures) ∙ ap (operandResultOf _) (c .before .before .before .before .before .before .before .before .before .b .given .1),
+      c .before .before .before .before .before .enum-told2 .given .1,
+      le-ltb _ _ (c .before .before .before .if1 .left),
+      ← c .before .before .before .before .before .before .before .data-register .ensures .0,
       ← c .before .before .register .ensures,
       ← stored-byte e (c .step-result .ensures),
     )
@@ -87,9 +106,12 @@ operate-on-operand-spec =
     enum-known-access
     operated-requires
     enum-told-2
-    register-requires
-    cast-t15
-    cast-t16
-    step-result-requires
+    cast-if1
+    stopped-requires-2
     returns-2
-    returns-3)
+    register-requires
+    cast-t18
+    cast-t19
+    step-result-requires
+    returns-3
+    returns-4)

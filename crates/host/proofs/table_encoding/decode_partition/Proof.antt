@@ -16,12 +16,15 @@ u16-at-requires-2 c κs = search needs
 u16-at-requires-3 : tie.Need-u16-at-requires-3
 u16-at-requires-3 c κs = search needs
 
+u16-at-requires-4 : tie.Need-u16-at-requires-4
+u16-at-requires-4 c κs = search needs
+
 byte-requires : tie.Need-byte-requires
 byte-requires c κs = search needs
 
 returns : tie.Need-returns
 unfolding partitionFromBytes
-returns c = rw (c .before .before .before .before .u32-at .ensures, c .before .before .before .u16-at .ensures, c .before .before .u16-at2 .ensures, c .before .u16-at3 .ensures, c .byte .ensures)
+returns c = rw (c .before .before .before .before .before .u32-at .ensures, c .before .before .before .before .u16-at .ensures, c .before .before .before .u16-at2 .ensures, c .before .before .u16-at3 .ensures, c .before .u16-at4 .ensures, c .byte .ensures)
 
 pub decode-partition-spec : {M : Type 1} → statement M
 decode-partition-spec =
@@ -31,5 +34,6 @@ decode-partition-spec =
     u16-at-requires
     u16-at-requires-2
     u16-at-requires-3
+    u16-at-requires-4
     byte-requires
     returns)

@@ -3,16 +3,16 @@ use Prim.Native.Nat.{_+_, _*_, _-_}
 use lib.ListN.{length-replicate}
 use Rattle.slices.specs.PieceLaws.{TabulatedTo, tabulated-none, tabulated-next, tabulated-all}
 use Rattle.slices.specs.Slices.{partOf}
-use Rattle.host.specs.TableEncoding.{slotLength, slotFromBytes}
+use Rattle.host.specs.TableEncoding.{slotLength, slotsOffset, slotFromBytes}
 use borrow.Author.Needs.{needs}
 use Rattle.host.proofs.table_encoding.decode_slots.Statement.{statement}
 use Rattle.host.proofs.table_encoding.decode_slots.Tie as tie
 
 abbrev Inv-loop : tie.InvT-loop
-Inv-loop bytes at slots₀ k₀ slots k = TabulatedTo 8 (λ i. slotFromBytes (partOf bytes (at + slotLength * i) slotLength)) k slots
+Inv-loop bytes slots₀ k₀ slots k = TabulatedTo 8 (λ i. slotFromBytes (partOf bytes (slotsOffset + slotLength * i) slotLength)) k slots
 
 abbrev μ-loop : tie.MeasureT-loop
-μ-loop bytes at slots₀ k₀ slots k = 8 - k
+μ-loop bytes slots₀ k₀ slots k = 8 - k
 
 decode-slot-requires : tie.Need-decode-slot-requires Inv-loop μ-loop
 decode-slot-requires c κs = search needs

@@ -1,5 +1,4 @@
 -- `host::table_encoding::decode_table`: three numbers, and the slots behind them.
-use native.Mathlib.Omega.{arith}
 use Rattle.host.specs.TableEncoding.{tableFromBytes}
 use borrow.Author.Needs.{needs}
 use Rattle.host.proofs.table_encoding.decode_table.Statement.{statement}
@@ -15,7 +14,7 @@ u32-at-requires-3 : tie.Need-u32-at-requires-3
 u32-at-requires-3 c κs = search needs
 
 decode-slots-requires : tie.Need-decode-slots-requires
-decode-slots-requires c κs = omega arith
+decode-slots-requires c κs = search needs
 
 returns : tie.Need-returns
 unfolding tableFromBytes

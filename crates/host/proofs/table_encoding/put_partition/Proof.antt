@@ -33,6 +33,12 @@ add-put-u16-3 c = search needs
 put-u16-requires-3 : tie.Need-put-u16-requires-3
 put-u16-requires-3 c κs = search needs
 
+add-put-u16-4 : tie.Need-add-put-u16-4
+add-put-u16-4 c = search needs
+
+put-u16-requires-4 : tie.Need-put-u16-requires-4
+put-u16-requires-4 c κs = search needs
+
 add-put-byte : tie.Need-add-put-byte
 add-put-byte c = search needs
 
@@ -44,19 +50,20 @@ same-length c = search needs
 
 returns : tie.Need-returns
 unfolding partitionBytes
-returns c = let a = c .before .before .before .before .before .before .before .before .before .before .before .before .before .before .before .before .before .before .before .before .before .before .before .args in
+returns c = let a = c .before .before .before .before .before .before .before .before .before .before .before .before .before .before .before .before .before .before .before .before .before .before .before .before .before .before .before .args in
     let p = a .partition in
     let at = a .at in
-    let room : at + partitionLength ≤ length (now (a .bytes)) = c .before .before .before .before .before .before .before .before .before .before .before .before .before .before .before .before .before .before .before .before .before .before .before .pre in
-    rw (c .before .before .put-byte .ensures, c .before .before .before .before .before .before .put-u163 .ensures, c .before .before .before .before .before .before .before .before .before .before .put-u162 .ensures, c .before .before .before .before .before .before .before .before .before .before .before .before .before .before .put-u16 .ensures, c .before .before .before .before .before .before .before .before .before .before .before .before .before .before .before .before .before .before .put-u32 .ensures)
+    let room : at + partitionLength ≤ length (now (a .bytes)) = c .before .before .before .before .before .before .before .before .before .before .before .before .before .before .before .before .before .before .before .before .before .before .before .before .before .before .before .pre in
+    rw (c .before .before .put-byte .ensures, c .before .before .before .before .before .before .put-u164 .ensures, c .before .before .before .before .before .before .before .before .before .before .put-u163 .ensures, c .before .before .before .before .before .before .before .before .before .before .before .before .before .before .put-u162 .ensures, c .before .before .before .before .before .before .before .before .before .before .before .before .before .before .before .before .before .before .put-u16 .ensures, c .before .before .before .before .before .before .before .before .before .before .before .before .before .before .before .before .before .before .before .before .before .before .put-u32 .ensures)
     (copied-each (
     (at, u32Bytes (p .base .0))
     ∷ (at + 4, u16Bytes (p .layout .window))
     ∷ (at + 6, u16Bytes (p .layout .input))
     ∷ (at + 8, u16Bytes (p .layout .output))
-    ∷ (at + 10, p .quantum ∷ [])
+    ∷ (at + 10, u16Bytes (p .layout .locked))
+    ∷ (at + 12, p .quantum ∷ [])
     ∷ []
-    ) (now (a .bytes)) at (refl, (refl, (omega arith, (omega arith, (omega arith, tt))))) room)
+    ) (now (a .bytes)) at (refl, (refl, (omega arith, (omega arith, (omega arith, (omega arith, tt)))))) room)
 
 pub put-partition-spec : {M : Type 1} → statement M
 put-partition-spec =
@@ -69,6 +76,8 @@ put-partition-spec =
     put-u16-requires-2
     add-put-u16-3
     put-u16-requires-3
+    add-put-u16-4
+    put-u16-requires-4
     add-put-byte
     put-byte-requires
     same-length

@@ -8,12 +8,12 @@ use Rattle.host.proofs.upgrading.decode_uncounted.Tie as tie
 u32-at-requires : tie.Need-u32-at-requires
 u32-at-requires c κs = search needs
 
-decode-slots-requires : tie.Need-decode-slots-requires
-decode-slots-requires c κs = omega arith
+decode-unlocked-slots-requires : tie.Need-decode-unlocked-slots-requires
+decode-unlocked-slots-requires c κs = omega (arith, c .before .before .pre)
 
 returns : tie.Need-returns
 unfolding uncountedTableFromBytes
-returns c = rw (c .before .u32-at .ensures, c .decode-slots .ensures)
+returns c = rw (c .before .u32-at .ensures, c .decode-unlocked-slots .ensures)
 
 pub decode-uncounted-spec : {M : Type 1} → statement M
-decode-uncounted-spec = tie.close (tie.spec u32-at-requires decode-slots-requires returns)
+decode-uncounted-spec = tie.close (tie.spec u32-at-requires decode-unlocked-slots-requires returns)

@@ -41,13 +41,19 @@ slice-aggregate-put-byte c = search needs
 put-byte-requires : tie.Need-put-byte-requires
 put-byte-requires c κs = search needs
 
+slice-aggregate-put-u16-5 : tie.Need-slice-aggregate-put-u16-5
+slice-aggregate-put-u16-5 c = search needs
+
+put-u16-requires-5 : tie.Need-put-u16-requires-5
+put-u16-requires-5 c κs = search needs
+
 returns : tie.Need-returns
 unfolding parametersBytes
-returns c = let p = c .before .before .before .before .before .before .before .before .before .before .before .before .before .before .before .before .before .args .parameters in
-    rw (c .before .put-byte .ensures, c .before .before .before .before .put-u164 .ensures, c .before .before .before .before .before .before .before .put-u163 .ensures, c .before .before .before .before .before .before .before .before .before .before .put-u162 .ensures, c .before .before .before .before .before .before .before .before .before .before .before .before .before .put-u16 .ensures)
-    (copied-each ((0, u16Bytes (p .layout .window)) ∷ (2, u16Bytes (p .layout .input)) ∷ (4, u16Bytes (p .layout .output)) ∷ (6, u16Bytes (p .start .0)) ∷ (8, p .quantum ∷ []) ∷ []) (replicate 9 0) 0
-    (refl, (refl, (refl, (refl, (refl, tt))))) (omega arith)
-    ∙ copied-all (replicate 9 0) (parametersBytes p) refl)
+returns c = let p = c .before .before .before .before .before .before .before .before .before .before .before .before .before .before .before .before .before .before .before .before .args .parameters in
+    rw (c .before .put-u165 .ensures, c .before .before .before .before .put-byte .ensures, c .before .before .before .before .before .before .before .put-u164 .ensures, c .before .before .before .before .before .before .before .before .before .before .put-u163 .ensures, c .before .before .before .before .before .before .before .before .before .before .before .before .before .put-u162 .ensures, c .before .before .before .before .before .before .before .before .before .before .before .before .before .before .before .before .put-u16 .ensures)
+    (copied-each ((0, u16Bytes (p .layout .window)) ∷ (2, u16Bytes (p .layout .input)) ∷ (4, u16Bytes (p .layout .output)) ∷ (6, u16Bytes (p .start .0)) ∷ (8, p .quantum ∷ []) ∷ (9, u16Bytes (p .layout .locked)) ∷ []) (replicate 11 0) 0
+    (refl, (refl, (refl, (refl, (refl, (refl, tt)))))) (omega arith)
+    ∙ copied-all (replicate 11 0) (parametersBytes p) refl)
 
 pub encode-parameters-spec : {M : Type 1} → statement M
 encode-parameters-spec =
@@ -63,4 +69,6 @@ encode-parameters-spec =
     put-u16-requires-4
     slice-aggregate-put-byte
     put-byte-requires
+    slice-aggregate-put-u16-5
+    put-u16-requires-5
     returns)

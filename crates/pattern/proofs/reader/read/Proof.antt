@@ -22,6 +22,9 @@ returns c = reading-stops _ _ (c .before .before .read-version .ensures) (c .enu
 behind-record-requires : tie.Need-behind-record-requires
 behind-record-requires c κs = search needs
 
+form-in-requires : tie.Need-form-in-requires
+form-in-requires c κs = search needs
+
 read-parameters-requires : tie.Need-read-parameters-requires
 read-parameters-requires c κs = search needs
 
@@ -34,7 +37,7 @@ enum-told-3 c = search needs
 returns-2 : tie.Need-returns-2
 returns-2 c = reading-stops _ _ (c .before .before .read-parameters .ensures) (c .enum-told3 .given .1) _
     ∙ sym (
-    after-version _ _ (c .before .before .before .behind-record .ensures) (c .before .before .before .before .before .before .read-version .ensures) (c .before .before .before .before .enum-told .given .1)
+    after-version _ _ _ (c .before .before .before .before .behind-record .ensures) (c .before .before .before .form-in .ensures) (c .before .before .before .before .before .before .before .read-version .ensures) (c .before .before .before .before .before .enum-told .given .1)
     )
 
 behind-record-requires-2 : tie.Need-behind-record-requires-2
@@ -52,8 +55,8 @@ enum-told-5 c = search needs
 returns-3 : tie.Need-returns-3
 returns-3 c = reading-stops _ _ (c .before .before .read-code .ensures) (c .enum-told5 .given .1) _
     ∙ sym (
-    after-version _ _ (c .before .before .before .before .before .before .before .before .behind-record .ensures) (c .before .before .before .before .before .before .before .before .before .before .before .read-version .ensures) (c .before .before .before .before .before .before .before .before .before .enum-told .given .1)
-    ∙ after-parameters _ _ (c .before .before .before .behind-record2 .ensures) (c .before .before .before .before .before .before .before .read-parameters .ensures) (c .before .before .before .before .before .second .given .1)
+    after-version _ _ _ (c .before .before .before .before .before .before .before .before .before .behind-record .ensures) (c .before .before .before .before .before .before .before .before .form-in .ensures) (c .before .before .before .before .before .before .before .before .before .before .before .before .read-version .ensures) (c .before .before .before .before .before .before .before .before .before .before .enum-told .given .1)
+    ∙ after-parameters _ _ _ (c .before .before .before .behind-record2 .ensures) (c .before .before .before .before .before .before .before .read-parameters .ensures) (c .before .before .before .before .before .second .given .1)
     )
 
 behind-record-requires-3 : tie.Need-behind-record-requires-3
@@ -71,8 +74,8 @@ enum-told-7 c = search needs
 returns-4 : tie.Need-returns-4
 returns-4 c = reading-stops _ _ (c .before .before .read-input .ensures) (c .enum-told7 .given .1) _
     ∙ sym (
-    after-version _ _ (c .before .before .before .before .before .before .before .before .before .before .before .before .behind-record .ensures) (c .before .before .before .before .before .before .before .before .before .before .before .before .before .before .before .read-version .ensures) (c .before .before .before .before .before .before .before .before .before .before .before .before .before .enum-told .given .1)
-    ∙ after-parameters _ _ (c .before .before .before .before .before .before .before .behind-record2 .ensures) (c .before .before .before .before .before .before .before .before .before .before .before .read-parameters .ensures) (c .before .before .before .before .before .before .before .before .before .second .given .1)
+    after-version _ _ _ (c .before .before .before .before .before .before .before .before .before .before .before .before .before .behind-record .ensures) (c .before .before .before .before .before .before .before .before .before .before .before .before .form-in .ensures) (c .before .before .before .before .before .before .before .before .before .before .before .before .before .before .before .before .read-version .ensures) (c .before .before .before .before .before .before .before .before .before .before .before .before .before .before .enum-told .given .1)
+    ∙ after-parameters _ _ _ (c .before .before .before .before .before .before .before .behind-record2 .ensures) (c .before .before .before .before .before .before .before .before .before .before .before .read-parameters .ensures) (c .before .before .before .before .before .before .before .before .before .second .given .1)
     ∙ after-code _ _ _ (c .before .before .before .behind-record3 .ensures) (c .before .before .before .before .before .before .read-code .ensures) (c .before .before .before .before .enum-told4 .given .1)
     )
 
@@ -91,16 +94,16 @@ enum-told-9 c = search needs
 returns-5 : tie.Need-returns-5
 returns-5 c = reading-stops _ _ (c .before .before .read-end .ensures) (c .enum-told9 .given .1) _
     ∙ sym (
-    after-version _ _ (c .before .before .before .before .before .before .before .before .before .before .before .before .before .before .before .before .behind-record .ensures) (c .before .before .before .before .before .before .before .before .before .before .before .before .before .before .before .before .before .before .before .read-version .ensures) (c .before .before .before .before .before .before .before .before .before .before .before .before .before .before .before .before .before .enum-told .given .1)
-    ∙ after-parameters _ _ (c .before .before .before .before .before .before .before .before .before .before .before .behind-record2 .ensures) (c .before .before .before .before .before .before .before .before .before .before .before .before .before .before .before .read-parameters .ensures) (c .before .before .before .before .before .before .before .before .before .before .before .before .before .second .given .1)
+    after-version _ _ _ (c .before .before .before .before .before .before .before .before .before .before .before .before .before .before .before .before .before .behind-record .ensures) (c .before .before .before .before .before .before .before .before .before .before .before .before .before .before .before .before .form-in .ensures) (c .before .before .before .before .before .before .before .before .before .before .before .before .before .before .before .before .before .before .before .before .read-version .ensures) (c .before .before .before .before .before .before .before .before .before .before .before .before .before .before .before .before .before .before .enum-told .given .1)
+    ∙ after-parameters _ _ _ (c .before .before .before .before .before .before .before .before .before .before .before .behind-record2 .ensures) (c .before .before .before .before .before .before .before .before .before .before .before .before .before .before .before .read-parameters .ensures) (c .before .before .before .before .before .before .before .before .before .before .before .before .before .second .given .1)
     ∙ after-code _ _ _ (c .before .before .before .before .before .before .before .behind-record3 .ensures) (c .before .before .before .before .before .before .before .before .before .before .read-code .ensures) (c .before .before .before .before .before .before .before .before .enum-told4 .given .1)
     ∙ after-input _ _ _ (c .before .before .before .behind-record4 .ensures) (c .before .before .before .before .before .before .read-input .ensures) (c .before .before .before .before .enum-told6 .given .1)
     )
 
 returns-6 : tie.Need-returns-6
 returns-6 c = sym (
-    after-version _ _ (c .before .before .before .before .before .before .before .before .before .before .before .before .before .before .before .before .behind-record .ensures) (c .before .before .before .before .before .before .before .before .before .before .before .before .before .before .before .before .before .before .before .read-version .ensures) (c .before .before .before .before .before .before .before .before .before .before .before .before .before .before .before .before .before .enum-told .given .1)
-    ∙ after-parameters _ _ (c .before .before .before .before .before .before .before .before .before .before .before .behind-record2 .ensures) (c .before .before .before .before .before .before .before .before .before .before .before .before .before .before .before .read-parameters .ensures) (c .before .before .before .before .before .before .before .before .before .before .before .before .before .second .given .1)
+    after-version _ _ _ (c .before .before .before .before .before .before .before .before .before .before .before .before .before .before .before .before .before .behind-record .ensures) (c .before .before .before .before .before .before .before .before .before .before .before .before .before .before .before .before .form-in .ensures) (c .before .before .before .before .before .before .before .before .before .before .before .before .before .before .before .before .before .before .before .before .read-version .ensures) (c .before .before .before .before .before .before .before .before .before .before .before .before .before .before .before .before .before .before .enum-told .given .1)
+    ∙ after-parameters _ _ _ (c .before .before .before .before .before .before .before .before .before .before .before .behind-record2 .ensures) (c .before .before .before .before .before .before .before .before .before .before .before .before .before .before .before .read-parameters .ensures) (c .before .before .before .before .before .before .before .before .before .before .before .before .before .second .given .1)
     ∙ after-code _ _ _ (c .before .before .before .before .before .before .before .behind-record3 .ensures) (c .before .before .before .before .before .before .before .before .before .before .read-code .ensures) (c .before .before .before .before .before .before .before .before .enum-told4 .given .1)
     ∙ after-input _ _ _ (c .before .before .before .behind-record4 .ensures) (c .before .before .before .before .before .before .read-input .ensures) (c .before .before .before .before .enum-told6 .given .1)
     ∙ after-end _ _ (c .before .before .read-end .ensures) (c .enum-told8 .given .1)
@@ -115,6 +118,7 @@ read-spec =
     enum-told-2
     returns
     behind-record-requires
+    form-in-requires
     read-parameters-requires
     enum-known-second
     enum-told-3

@@ -9,7 +9,7 @@ use lib.ListN.{length, getD}
 use denote.Ref.{now}
 use Rattle.table.specs.Sound.{allFifteenBits}
 use Rattle.common.specs.Tests.{allBelow}
-use Rattle.table.proofs.AllBelowLaws.{all-none, all-more, all-done}
+use Rattle.common.specs.AllBelowLaws.{all-none, all-more, all-done}
 use borrow.Author.Needs.{needs}
 use Rattle.table.proofs.sound.all_fifteen_bits.Statement.{statement}
 use Rattle.table.proofs.sound.all_fifteen_bits.Tie as tie

@@ -9,7 +9,7 @@ use lib.ListN.{length, getD}
 use denote.Ref.{now}
 use Rattle.table.specs.Sound.{allZero}
 use Rattle.common.specs.Tests.{allBelow}
-use Rattle.table.proofs.AllBelowLaws.{all-none, all-more, all-done}
+use Rattle.common.specs.AllBelowLaws.{all-none, all-more, all-done}
 use Rattle.table.proofs.sound.all_zero_bytes.Statement.{statement}
 use Rattle.table.proofs.sound.all_zero_bytes.Tie as tie
 

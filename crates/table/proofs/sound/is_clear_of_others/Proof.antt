@@ -9,7 +9,7 @@ use Rattle.table.specs.Sound.{areApart, isClearOfOthers}
 use Rattle.common.specs.Tests.{allBelow}
 use Rattle.table.specs.declared.table.Partition.{Partition}
 use Rattle.table.specs.declared.table.Table.{Table}
-use Rattle.table.proofs.AllBelowLaws.{all-none, all-more, all-done}
+use Rattle.common.specs.AllBelowLaws.{all-none, all-more, all-done}
 use borrow.Author.Needs.{needs}
 use Rattle.table.proofs.sound.is_clear_of_others.Statement.{statement}
 use Rattle.table.proofs.sound.is_clear_of_others.Tie as tie

@@ -7,7 +7,7 @@ use Rattle.table.specs.Table.{slotAt}
 use Rattle.table.specs.Sound.{isClearOfOthers}
 use Rattle.common.specs.Tests.{allBelow}
 use Rattle.table.specs.declared.table.Table.{Table}
-use Rattle.table.proofs.AllBelowLaws.{all-none, all-more, all-done}
+use Rattle.common.specs.AllBelowLaws.{all-none, all-more, all-done}
 use borrow.Author.Needs.{needs}
 use Rattle.table.proofs.sound.slots_apart.Statement.{statement}
 use Rattle.table.proofs.sound.slots_apart.Tie as tie

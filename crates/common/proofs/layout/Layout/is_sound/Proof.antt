@@ -34,7 +34,7 @@ is-one-to-requires-3 c κs = search needs
 
 returns : tie.Need-returns
 unfolding layoutSound andAll
-returns c = rw (c .before .before .before .before .is-one-to .ensures, c .before .before .is-one-to2 .ensures, c .is-one-to3 .ensures)
+returns c = rw (c .before .before .before .before .before .is-one-to .ensures, c .before .before .before .is-one-to2 .ensures, c .before .is-one-to3 .ensures)
 
 pub is-sound-spec : {M : Type 1} → statement M
 is-sound-spec =

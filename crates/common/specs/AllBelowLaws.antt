@@ -1,10 +1,10 @@
--- Loops that carry a Bool: after i iterations it is `allBelow i test`.
+-- Laws that the checker has shown: a loop that carries a Bool. After i iterations it is `allBelow i test`.
 use Prim.Native.Nat.{ℕ, _+_, _≤_}
 use native.Mathlib.Nat.{le-antisymm}
 use native.Mathlib.Numerals.{add-one}
 use mathlib.Core.Path.{_≡_, refl, ap, _∙_}
 use mathlib.Core.Bool.{Bool, true, _&&_}
 use Rattle.common.specs.Tests.{allBelow}
 
 module _ (test : ℕ → Bool) where
   -- before the first iteration
