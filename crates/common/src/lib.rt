@@ -1,4 +1,5 @@
-// What every layer needs: addresses and locations, how a partition is divided, and whether a number is in its range.
+// What every layer needs: addresses and locations, how a partition is divided, whether a number is in its range, and the lesser and the
+// greater of two.
 mod layout;
 mod places;
 mod ranges;
@@ -7,3 +8,5 @@ pub use layout::Layout;
 pub use places::Address;
 pub use places::Location;
 pub use ranges::is_one_to;
+pub use ranges::max;
+pub use ranges::min;

@@ -13,13 +13,13 @@ use Rattle.common.specs.declared.places.Location.{Location}
 use Rattle.slices.specs.SliceLaws.{copied-front}
 use Rattle.slices.specs.Slices.{copied}
 use Rattle.supervisor.specs.ChangeLaws.{drain-accepted, load-far}
-use Rattle.table.specs.Queries.{report, queryRefusal, reportOf, backlogOutcome, backlogOf, fitOf}
+use Rattle.queries.specs.Queries.{report, queryRefusal, reportOf, backlogOutcome, backlogOf, fitOf}
 use Rattle.supervisor.specs.Calls.{Call, change, load, drain, Outcome, outcome, outcomeOf, refusal, afterCall, drainedCount, drainedBuffer}
 use Rattle.table.specs.TableConditionLaws.{HoldsPattern}
 use Rattle.supervisor.specs.System.{System, system, slotOf}
 use Rattle.table.specs.Table.{newRefusal, newTable}
-use Rattle.table.specs.declared.fit_query.FitAnswer.{FitAnswer}
-use Rattle.table.specs.declared.reported.Report.{Report}
+use Rattle.queries.specs.declared.fit_query.FitAnswer.{FitAnswer}
+use Rattle.queries.specs.declared.reported.Report.{Report}
 use Rattle.table.specs.declared.table.Table.{Table}
 use Rattle.host.specs.HostCalls.{answerOf, lentSystem, tableBytesAfter, bufferOutcome, hostNew, hostBuffers, hostOutcome, hostAfterCall, hostOutcomeOf, hostDrainedBuffer, reportBytes, reportLength, hostReportRefusal, hostReport, bufferOutcomeOf, hostBacklog, answerOfFit, hostFit}
 use Rattle.host.specs.TableEncoding.{tableFromBytes, tableLength}

@@ -7,12 +7,12 @@ use lib.Dec.{eqb, ltb}
 use lib.ListN.{length, drop}
 use Rattle.common.specs.Choice.{if_then_else_}
 use Rattle.common.specs.Refusals.{_gives_, refusalBy}
-use Rattle.table.specs.Queries.{report, queryRefusal, reportOf, BacklogOutcome, backlogOf, fitOf}
+use Rattle.queries.specs.Queries.{report, queryRefusal, reportOf, BacklogOutcome, backlogOf, fitOf}
 use Rattle.supervisor.specs.Calls.{Call, refusal, afterCall, drainedBuffer}
 use Rattle.supervisor.specs.System.{System, system}
 use Rattle.table.specs.Table.{newRefusal, newTable}
-use Rattle.table.specs.declared.fit_query.FitAnswer.{FitAnswer}
-use Rattle.table.specs.declared.reported.Report.{Report}
+use Rattle.queries.specs.declared.fit_query.FitAnswer.{FitAnswer}
+use Rattle.queries.specs.declared.reported.Report.{Report}
 use Rattle.table.specs.declared.table.Table.{Table}
 use Rattle.slices.specs.Numbers.{u16Bytes}
 use Rattle.slices.specs.Slices.{concat}

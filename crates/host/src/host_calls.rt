@@ -10,7 +10,7 @@ use crate::table_encoding::TABLE_LENGTH;
 use crate::table_encoding::decode_table;
 use crate::table_encoding::put_table;
 use common::Location;
-use table::Report;
+use queries::Report;
 use table::Table;
 
 // How many bytes a report has.
@@ -174,7 +174,7 @@ pub extern "C" fn pf_report(table: &[u8], slot: usize, report: &mut [u8]) -> u32
     if table.len() != TABLE_LENGTH {
         return answer(1, 0);
     }
-    let made = table::report(decode_table(table), slot);
+    let made = queries::report(decode_table(table), slot);
     let refusal = made.refusal;
     if refusal != 0 {
         return answer(refusal, 0);
@@ -195,7 +195,7 @@ pub extern "C" fn pf_backlog(table: &[u8], buffer: &mut [u8]) -> u32
     if table.len() != TABLE_LENGTH {
         return answer(1, 0);
     }
-    let filled = table::backlog(decode_table(table), buffer);
+    let filled = queries::backlog(decode_table(table), buffer);
     answer(filled.refusal, filled.length as u16)
 }
 
@@ -207,7 +207,7 @@ pub extern "C" fn pf_fit(table: &[u8], size: usize) -> u32
     if table.len() != TABLE_LENGTH {
         return answer(1, 0);
     }
-    let found = table::fit(decode_table(table), size);
+    let found = queries::fit(decode_table(table), size);
     let location = found.location;
     answer(found.refusal, location.0 as u16)
 }

@@ -7,13 +7,13 @@ use native.Mathlib.Omega.{arith}
 use borrow.Author.Tests.{lt-ltb, le-ltb, ne-eqb, eq-eqb}
 use lib.ListN.{length, take, drop}
 use Rattle.common.specs.Choice.{if_then_else_}
-use Rattle.table.specs.Queries.{reportOf}
+use Rattle.queries.specs.Queries.{reportOf}
 use Rattle.supervisor.specs.Calls.{refusal, afterCall, Outcome, outcome, outcomeOf, drainedCount, drainedBuffer}
 use Rattle.supervisor.specs.System.{System, system, slotOf}
 use Rattle.table.specs.Table.{newTable, isEmpty}
 use Rattle.supervisor.specs.Draining.{writtenBytes}
 use Rattle.supervisor.specs.ConditionLaws.{SoundSystem, ReadySlot, loaded-ready}
-use Rattle.table.specs.declared.reported.Report.{Report}
+use Rattle.queries.specs.declared.reported.Report.{Report}
 use Rattle.table.specs.declared.table.Table.{Table}
 use Rattle.listing.specs.Text.{refusedLine, linesOf}
 use Rattle.listing.specs.BenchListing.{newSystem, loadCall, afterBenchRounds, fileRefusal, linesAfter, textOf, memoryAfter, listingOutcome, listingOf}

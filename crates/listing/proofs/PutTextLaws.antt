@@ -8,7 +8,7 @@ use lib.ListN.{length, getD, take, drop, length-append, take-append-drop}
 use lib.Seq.{take-all, length-take-le}
 use Rattle.slices.specs.SliceLaws.{copied-front, copied-next, copied-whole}
 use Rattle.slices.specs.Slices.{copied}
-use Rattle.table.specs.declared.reported.Report.{Report}
+use Rattle.queries.specs.declared.reported.Report.{Report}
 use Rattle.listing.specs.Ascii.{ascii}
 use Rattle.listing.specs.Text.{hexByte, hexU16, decimalDigits, field, fields, refusedLine, reportLine, outputLine, linesOf}
 use Rattle.listing.specs.TextLaws.{field-length, fields-length, fields-append, fields-more, one-digit, decimal-digits-short}

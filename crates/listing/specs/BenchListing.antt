@@ -6,7 +6,7 @@ use lib.Dec.{eqb, ltb}
 use lib.ListN.{length, drop}
 use Rattle.common.specs.Refusals.{_gives_, unless, refusalBy}
 use Rattle.common.specs.Choice.{if_then_else_}
-use Rattle.table.specs.Queries.{reportOf}
+use Rattle.queries.specs.Queries.{reportOf}
 use Rattle.supervisor.specs.Calls.{Call, change, load, refusal, afterCall}
 use Rattle.supervisor.specs.System.{System, system, slotOf}
 use Rattle.table.specs.Table.{newTable}

@@ -5,7 +5,7 @@ use Rattle.loader.specs.Fresh.{freshState, freshBytes, freshMachine}
 use Rattle.pattern.specs.FileDefinitions.{file-definitions}
 use Rattle.table.specs.TableDefinitions.{sound-definitions}
 use Rattle.supervisor.specs.CallDefinitions.{refusal-definitions, change-definitions, run-definitions}
-use Rattle.table.specs.Queries.{reportOf}
+use Rattle.queries.specs.Queries.{reportOf}
 use Rattle.supervisor.specs.Calls.{afterAccepted, afterCall, countedAfter}
 use Rattle.supervisor.specs.Loading.{partitionFor}
 use Rattle.table.specs.Table.{newTable, newRefusal}

@@ -8,7 +8,7 @@ use lib.ListN.{length, drop}
 use Rattle.cpu.specs.Cases as machine
 use Rattle.pattern.specs.Cases as pattern
 use Rattle.pattern.specs.Reader as reader
-use Rattle.table.specs.Queries.{reportOf}
+use Rattle.queries.specs.Queries.{reportOf}
 use Rattle.supervisor.specs.Calls.{change, load, run, refusal, afterCall}
 use Rattle.supervisor.specs.System.{System, system, slotOf}
 use Rattle.table.specs.Table.{newTable}

@@ -12,7 +12,7 @@ use Rattle.common.specs.Choice.{if_then_else_}
 use Rattle.common.specs.TestLaws.{and-fact}
 use Rattle.loader.specs.Fresh.{freshState}
 use Rattle.slices.specs.SliceLaws.{part-length}
-use Rattle.table.specs.Queries.{report, queryRefusal, reportOf}
+use Rattle.queries.specs.Queries.{report, queryRefusal, reportOf}
 use Rattle.supervisor.specs.Calls.{load, change, run, drain, refusal, patchOf, countedAfter, afterChange, afterAccepted, afterCall, drainedCount, drainedBuffer}
 use Rattle.supervisor.specs.ChangeLaws.{change-sound}
 use Rattle.supervisor.specs.ConditionLaws.{SoundSystem, ReadySlot, loaded-ready}

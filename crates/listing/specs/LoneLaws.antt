@@ -18,7 +18,7 @@ use Rattle.loader.specs.FreshLaws.{fresh-length}
 use Rattle.pattern.specs.Reader.{parametersOf}
 use Rattle.slices.specs.SliceLaws.{copied-inside, part-front}
 use Rattle.slices.specs.Slices.{partOf, copied}
-use Rattle.table.specs.Queries.{reportOf}
+use Rattle.queries.specs.Queries.{reportOf}
 use Rattle.supervisor.specs.Calls.{run, refusal, patchOf, countedAfter, afterCall}
 use Rattle.supervisor.specs.ChangeLaws.{LoadAccepted, load-accepted}
 use Rattle.supervisor.specs.ConditionLaws.{SoundSystem, ReadySlot}
@@ -26,10 +26,10 @@ use Rattle.supervisor.specs.System.{System, slotOf, patched, machineIn}
 use Rattle.table.specs.Table.{slotAt}
 use Rattle.supervisor.specs.Loading.{partitionFor, loadPatch}
 use Rattle.supervisor.specs.Draining.{writtenBytes}
-use Rattle.table.specs.Reporting.{reportedPsu}
+use Rattle.queries.specs.Reporting.{reportedPsu}
 use Rattle.supervisor.specs.PatchLaws.{slotMachine, patched-slot}
 use Rattle.supervisor.specs.RoundLaws.{rounds-running, rounds-machine}
-use Rattle.table.specs.declared.reported.Report.{Report}
+use Rattle.queries.specs.declared.reported.Report.{Report}
 use Rattle.table.specs.declared.table.Partition.{Partition}
 use Rattle.table.specs.declared.table.Slot.{Slot}
 use Rattle.listing.specs.BenchListing.{newSystem, loadCall, afterBenchRounds, fileRefusal, linesAfter, textOf}

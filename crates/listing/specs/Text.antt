@@ -5,7 +5,7 @@ use mathlib.Core.List.{List, [], _∷_, _++_}
 use Prim.Native.Char.{code}
 use Prim.Native.Nat.{ℕ, _+_, _-_, _/_, _%_}
 use lib.Dec.{ltb}
-use Rattle.table.specs.declared.reported.Report.{Report}
+use Rattle.queries.specs.declared.reported.Report.{Report}
 use Rattle.listing.specs.Ascii.{ascii}
 
 -- a digit of a number below 16; hex letters are capitals

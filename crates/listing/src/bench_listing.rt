@@ -38,7 +38,7 @@ fn put_report_and_output(table: Table, memory: &[u8], text: &mut [u8]) -> usize
     ensures { λ r. ⌜ now (text .exit) ≡ linesAfter (system table (now (memory .entry))) ++ drop r (now (text .entry)) ⌝ }
     ensures { λ r. ⌜ r ≤ longestText ⌝ }
 {
-    let report = table::report(table, 0);
+    let report = queries::report(table, 0);
     let mut output = [0u8; 4096];
     let drained = supervisor::drain(table, memory, 0, &mut output);
     put_lines(report, slices::front(&output, drained.count), text)

@@ -1,5 +1,5 @@
 // The lines of the text, each ended by a newline, written at the front of a buffer that has room for them.
-use table::Report;
+use queries::Report;
 ghost use mathlib.Core.List.{_∷_, _++_};
 ghost use mathlib.Core.Path.{_≡_};
 ghost use Prim.Native.Nat.{_+_, _*_, _≤_, _<_};

@@ -7,11 +7,11 @@ use common::Layout;
 use common::Location;
 use cpu::Cpu;
 use cpu::State;
+use queries::Report;
 use slices::rest;
 use slices::u16_at;
 use slices::u32_at;
 use table::Partition;
-use table::Report;
 use table::Slot;
 use table::Table;
 

@@ -160,7 +160,7 @@ fn backlog_into(script: ScriptState, entry: &[u8], buffer: &mut [u8]) -> EntryRe
         return result_without_call(script, false);
     }
     let table = script.table;
-    let answer = table::backlog(table, &mut buffer[..n]);
+    let answer = queries::backlog(table, &mut buffer[..n]);
     let refusal = answer.refusal;
     EntryResult {
         script,
@@ -181,7 +181,7 @@ fn filling_entry(script: ScriptState, memory: &[u8], entry: &[u8]) -> EntryResul
 
 fn report_entry(script: ScriptState, entry: &[u8]) -> EntryResult {
     let table = script.table;
-    let answer = table::report(table, slot(entry));
+    let answer = queries::report(table, slot(entry));
     let refusal = answer.refusal;
     let same = (refusal as u16 == wanted(entry)) & same_report(answer, bytes(entry));
     EntryResult {
@@ -193,7 +193,7 @@ fn report_entry(script: ScriptState, entry: &[u8]) -> EntryResult {
 
 fn fit_entry(script: ScriptState, entry: &[u8]) -> EntryResult {
     let table = script.table;
-    let answer = table::fit(table, size(entry));
+    let answer = queries::fit(table, size(entry));
     let refusal = answer.refusal;
     let location = answer.location;
     EntryResult {

@@ -5,7 +5,7 @@ use Rattle.common.specs.Repetition.{times}
 use Rattle.cpu.specs.Cpu.{freshCpu}
 use Rattle.loader.specs.Fresh.{freshState}
 use Rattle.slices.specs.Slices.{copied}
-use Rattle.table.specs.Queries.{queryConditions}
+use Rattle.queries.specs.Queries.{queryConditions}
 use Rattle.supervisor.specs.Calls.{afterAccepted, afterCall, countedAfter, changeConditions, drainedBuffer, drainedCount, outcomeOf, patchOf, refusal}
 use Rattle.table.specs.TableConditions.{emptySlotConditions, loadedSlotConditions, tableConditions}
 use Rattle.supervisor.specs.Conditions.{systemConditions}

@@ -18,7 +18,7 @@ use Rattle.supervisor.specs.Draining.{drainConditions, drainPatch, writt
 use Rattle.supervisor.specs.Unloading.{unloadPatch}
 use Rattle.supervisor.specs.Running.{afterRun}
 use Rattle.table.specs.FreeBytes.{counted}
-use Rattle.table.specs.Queries.{Query, queryConditions}
+use Rattle.queries.specs.Queries.{Query, queryConditions}
 use Rattle.table.specs.declared.table.Slot.{Slot}
 use Rattle.table.specs.declared.table.Table.{Table}
 

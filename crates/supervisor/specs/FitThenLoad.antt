@@ -8,7 +8,7 @@ use mathlib.Core.Logic.{_≢_}
 use mathlib.Core.Path.{_≡_}
 use Rattle.common.specs.Layout.{layoutSize}
 use Rattle.pattern.specs.Reader.{parametersOf, readOf, readRefusal}
-use Rattle.table.specs.Queries.{fit, fitOf}
+use Rattle.queries.specs.Queries.{fit, fitOf}
 use Rattle.supervisor.specs.Calls.{change, load, query, refusal, afterCall}
 use Rattle.supervisor.specs.System.{System, slotOf}
 use Rattle.table.specs.Table.{isEmpty}

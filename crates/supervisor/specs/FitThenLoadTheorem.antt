@@ -13,13 +13,13 @@ use Rattle.common.specs.Refusals.{Condition, refusalBy}
 use Rattle.common.specs.TestLaws.{one-to-test}
 use Rattle.pattern.specs.Reader.{parametersOf, readOf, readRefusal}
 use Rattle.pattern.specs.ReaderLaws.{read-most, read-ranges, read-zero}
-use Rattle.table.specs.Queries.{fit, fitOf}
+use Rattle.queries.specs.Queries.{fit, fitOf}
 use Rattle.supervisor.specs.Calls.{change, load, refusal, changeConditions}
 use Rattle.table.specs.TableConditions.{tableConditions, emptySlotConditions}
 use Rattle.supervisor.specs.Conditions.{systemConditions}
 use Rattle.supervisor.specs.FitThenLoad.{refusalAtFit, FitThenLoad}
-use Rattle.table.specs.FitQuery.{isSizeInRange}
-use Rattle.table.specs.FitTheorem.{fit-sound, fit-inside, fit-clear}
+use Rattle.queries.specs.FitQuery.{isSizeInRange}
+use Rattle.queries.specs.FitTheorem.{fit-sound, fit-inside, fit-clear}
 use Rattle.supervisor.specs.Loading.{fileConditions, locationConditions, partitionFor}
 use Rattle.supervisor.specs.OutcomeLaws.{query-leaves}
 use Rattle.table.specs.Sound.{tableSound}

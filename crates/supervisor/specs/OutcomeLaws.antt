@@ -5,7 +5,7 @@ use mathlib.Core.List.{List}
 use mathlib.Core.Path.{_≡_, refl, sym, ap, _∙_}
 use borrow.Author.Tests.{ne-eqb}
 use Rattle.common.specs.Choice.{if_then_else_}
-use Rattle.table.specs.Queries.{Query}
+use Rattle.queries.specs.Queries.{Query}
 use Rattle.supervisor.specs.Calls.{Call, query, refusal, isAccepted, afterAccepted, afterCall, outcome, outcomeOf}
 use Rattle.table.specs.FreeBytes.{counted}
 use Rattle.table.specs.GapLaws.{counted-by-partitions}

@@ -1,5 +1,5 @@
 -- Definitions that must be believed: what refuses a call with a table before its own conditions, in the order of document 01's "Turned back,
--- by place". Queries.antt puts the lists together, and Calls.antt of supervisor.
+-- by place". Queries.antt of queries puts the lists together, and Calls.antt of supervisor.
 use Prim.Native.Nat.{ℕ}
 use lib.Dec.{ltb}
 use mathlib.Core.Bool.{not}

@@ -1,9 +1,9 @@
 // The free bytes of a table: how many there are, and how many the widest free extent has. Every call tests both, so they are found from the
 // eight partitions alone, without a list of extents. They are what is meant if the slots are sound.
-use crate::extents::max;
-use crate::extents::min;
 use crate::table::Partition;
 use crate::table::Table;
+use common::max;
+use common::min;
 ghost use mathlib.Core.Bool.{true};
 ghost use mathlib.Core.Path.{_≡_};
 ghost use Rattle.table.specs.FreeBytes.{isCounted};

@@ -1,7 +1,6 @@
 // What refuses a call with a table before its own conditions: the table's conditions and the slot's. Each is looked at in one place.
 use crate::sound::table_sound;
 use crate::table::Table;
-ghost use mathlib.Core.List.{_++_};
 ghost use mathlib.Core.Path.{_≡_};
 ghost use Rattle.common.specs.Refusals.{refusalBy};
 ghost use Rattle.table.specs.TableConditions.{tableConditions, emptySlotConditions, loadedSlotConditions};
@@ -41,15 +40,4 @@ pub fn loaded_slot_refusal(table: Table, slot: usize) -> u8
         return 5;
     }
     0
-}
-
-// The refusal of a call with a table alone, at a slot that is to hold a pattern.
-pub(crate) fn table_loaded_slot_refusal(table: Table, slot: usize) -> u8
-    ensures { λ r. ⌜ r ≡ refusalBy (tableConditions table ++ loadedSlotConditions table slot) ⌝ }
-{
-    let refusal = table_refusal(table);
-    if refusal != 0 {
-        return refusal;
-    }
-    loaded_slot_refusal(table, slot)
 }

@@ -1,9 +1,9 @@
--- `host::host_calls::pf_backlog`: the backlog of the decoded table; what it fills has at most 26 bytes (BacklogLaws.antt of table).
+-- `host::host_calls::pf_backlog`: the backlog of the decoded table; what it fills has at most 26 bytes (BacklogLaws.antt of queries).
 use denote.Ref.{now}
 use mathlib.Core.Path.{ap}
 use native.Mathlib.Omega.{arith}
-use Rattle.table.specs.BacklogLaws.{backlog-size}
-use Rattle.table.specs.Queries.{BacklogOutcome}
+use Rattle.queries.specs.BacklogLaws.{backlog-size}
+use Rattle.queries.specs.Queries.{BacklogOutcome}
 use Rattle.host.proofs.HostCallLaws.{backlog-other, backlog-made}
 use borrow.Author.Needs.{needs}
 use Rattle.host.proofs.host_calls.pf_backlog.Statement.{statement}

@@ -1,9 +1,9 @@
--- `host::host_calls::pf_fit`: the fit of the decoded table; a start has sixteen bits (FitTheorem.antt of table).
+-- `host::host_calls::pf_fit`: the fit of the decoded table; a start has sixteen bits (FitTheorem.antt of queries).
 use denote.Ref.{now}
 use mathlib.Core.Path.{ap}
 use native.Mathlib.Omega.{arith}
-use Rattle.table.specs.FitTheorem.{fit-start-few}
-use Rattle.table.specs.declared.fit_query.FitAnswer.{FitAnswer}
+use Rattle.queries.specs.FitTheorem.{fit-start-few}
+use Rattle.queries.specs.declared.fit_query.FitAnswer.{FitAnswer}
 use Rattle.host.proofs.HostCallLaws.{fit-other, fit-made}
 use borrow.Author.Needs.{needs}
 use Rattle.host.proofs.host_calls.pf_fit.Statement.{statement}
