@@ -10,23 +10,26 @@ use lib.ListN.{getD, set, take, drop, length, length-take, length-drop, List·ge
 use lib.Seq.{getD-take, getD-drop, take-set-le, take-set-lt, drop-set-lt, drop-set-add, set-out, take-all}
 use Rattle.common.specs.Choice.{if_then_else_}
 use Rattle.common.specs.Layout.{layoutSize}
-use Rattle.cpu.specs.PackedCpu.{cpuOf, effectOf, stepResultOf, portsOfView}
+use Rattle.registers.specs.PackedCpu.{cpuOf}
+use Rattle.steps.specs.PackedStep.{effectOf, stepResultOf}
+use Rattle.cpu.specs.PortView.{portsOfView}
 use Rattle.cpu.specs.Instruction.{instructionStep}
-use Rattle.cpu.specs.State.{withCpu, withStatus, withRead, withWritten}
+use Rattle.registers.specs.State.{withCpu, withStatus, withRead, withWritten}
 use Rattle.cpu.specs.Machine.{machineOf, portsOf, withEffect, afterStep, machineStep}
 use Rattle.cpu.specs.Partition.{BoundsHold, boundsOf, machineByBounds, portViewOf, PartitionAfter, partitionAfter, applyEffectOf}
-use Rattle.cpu.specs.Result.{Ports, StepResult}
+use Rattle.cpu.specs.Port.{Ports}
+use Rattle.steps.specs.Result.{StepResult}
 use Rattle.cpu.specs.StepLaws.{step-ends, EffectAllowed, ending-allowed}
 use Rattle.cpu.specs.RestLaws.{step-runs}
-use Rattle.cpu.specs.declared.packed_cpu.PackedCpu.{PackedCpu}
+use Rattle.registers.specs.declared.packed_cpu.PackedCpu.{PackedCpu}
 use Rattle.common.specs.declared.layout.Layout.{Layout}
-use Rattle.cpu.specs.declared.state.State.{State}
+use Rattle.registers.specs.declared.state.State.{State}
 use Rattle.cpu.specs.declared.partition.Bounds.{Bounds}
 use Rattle.cpu.specs.declared.partition.Positions.{Positions}
-use Rattle.cpu.specs.declared.result.PackedStep.{PackedStep}
-use Rattle.cpu.specs.declared.result.PackedEffect.{PackedEffect}
-use Rattle.cpu.specs.declared.result.PackedEffect.the-variants.{Nothing, Store, Take, Put}
-use Rattle.cpu.specs.declared.cpu.Cpu.{Cpu}
+use Rattle.steps.specs.declared.result.PackedStep.{PackedStep}
+use Rattle.steps.specs.declared.result.PackedEffect.{PackedEffect}
+use Rattle.steps.specs.declared.result.PackedEffect.the-variants.{Nothing, Store, Take, Put}
+use Rattle.registers.specs.declared.cpu.Cpu.{Cpu}
 
 -- the parts end inside the bytes, and start at numbers of their size
 pub record BoundsInside (b : Bounds) (n : ℕ) : Type 0 where

@@ -4,11 +4,11 @@ use mathlib.Core.Bool.{Bool, true, false, not}
 use mathlib.Core.List.{List}
 use Prim.Native.Nat.{ℕ, _+_, _/_, _%_}
 use lib.Dec.{eqb}
-use Rattle.cpu.specs.Address.{addWrapping, fetchOf, ifFetched, ifResolved, addressOf, resolveOf, relativeOf}
+use Rattle.steps.specs.Address.{addWrapping, fetchOf, ifFetched, ifResolved, addressOf, resolveOf, relativeOf}
 use Rattle.common.specs.Choice.{if_then_else_}
-use Rattle.cpu.specs.Result.{StepResult, runningOf, stoppedOf, addressAfter, advancedOf}
+use Rattle.steps.specs.Result.{StepResult, runningOf, stoppedOf, addressAfter, advancedOf}
 use Rattle.alu.specs.Psl.{fieldCC}
-use Rattle.cpu.specs.Cpu.{withoutII, pslOf, psuOf, registerOf, withRegister, withCounter, withPsu, callOf, returnFromCallOf}
+use Rattle.registers.specs.Cpu.{withoutII, pslOf, psuOf, registerOf, withRegister, withCounter, withPsu, callOf, returnFromCallOf}
 use Rattle.common.specs.declared.places.Address.{Address}
 use Rattle.cpu.specs.declared.branch.Target.{Target}
 use Rattle.cpu.specs.declared.branch.Target.the-variants.{To, NoTarget}
@@ -16,7 +16,7 @@ use Rattle.decode.specs.declared.decode.BranchKind.{BranchKind}
 use Rattle.decode.specs.declared.decode.BranchKind.the-variants.{Bct, Bcf, Brn, Bir, Bdr, Bst, Bsf, Bsn}
 use Rattle.decode.specs.declared.decode.BranchMode.{BranchMode}
 use Rattle.decode.specs.declared.decode.BranchMode.the-variants.{Relative, Absolute}
-use Rattle.cpu.specs.declared.cpu.Cpu.{Cpu}
+use Rattle.registers.specs.declared.cpu.Cpu.{Cpu}
 
 -- a condition holds if CC equals it, or if it is 3
 unfoldable pub conditionMetOf : ℕ → ℕ → Bool

@@ -4,9 +4,9 @@ use mathlib.Core.List.{List, [], _∷_}
 use mathlib.Core.Path.{_≡_, refl}
 use Prim.Native.Nat.{ℕ}
 use Rattle.cpu.specs.Machine.{Machine, machineStep}
-use Rattle.cpu.specs.State.{emptyState, withStatus}
-use Rattle.cpu.specs.Cpu.{freshCpu, withRegister, withPsu, withPsl}
-use Rattle.cpu.specs.declared.cpu.Cpu.{Cpu}
+use Rattle.registers.specs.State.{emptyState, withStatus}
+use Rattle.registers.specs.Cpu.{freshCpu, withRegister, withPsu, withPsl}
+use Rattle.registers.specs.declared.cpu.Cpu.{Cpu}
 use Rattle.cpu.specs.StepDefinitions.{step-definitions}
 
 -- counter, R0, PSU and PSL as given; the other registers and the return addresses zero

@@ -5,8 +5,8 @@ use Prim.Native.Nat.{ℕ, zero, suc, _+_, _*_, _/_, _%_, _<_}
 use native.Mathlib.Omega.{arith}
 use lib.ListN.{getD, set, length, length-set}
 use Rattle.cpu.specs.InvariantLaws.{Invariant, KeepsInvariants}
-use Rattle.cpu.specs.Cpu.{withSP, withoutII, storedPsu}
-use Rattle.cpu.specs.declared.cpu.Cpu.{Cpu}
+use Rattle.registers.specs.Cpu.{withSP, withoutII, storedPsu}
+use Rattle.registers.specs.declared.cpu.Cpu.{Cpu}
 use Rattle.cpu.specs.StepDefinitions.{cpu-definitions}
 
 -- what a sound table asks of registers: counter and return addresses of fifteen bits, PSU of its stored bits alone

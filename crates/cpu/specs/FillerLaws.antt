@@ -8,14 +8,14 @@ use Rattle.alu.specs.Psl.{withCC}
 use Rattle.common.specs.Choice.{if_then_else_}
 use Rattle.common.specs.Repetition.{times}
 use Rattle.common.specs.declared.places.Address.{Address}
-use Rattle.cpu.specs.Address.{addInPage, fetchOf}
-use Rattle.cpu.specs.Cpu.{counterOf, pslOf, registerIndex, registerOf, withCounter, withPsl}
+use Rattle.steps.specs.Address.{addInPage, fetchOf}
+use Rattle.registers.specs.Cpu.{counterOf, pslOf, registerIndex, registerOf, withCounter, withPsl}
 use Rattle.cpu.specs.Machine.{Machine, machineStep, withState}
-use Rattle.cpu.specs.Result.{addressAfter}
-use Rattle.cpu.specs.State.{withCpu}
+use Rattle.steps.specs.Result.{addressAfter}
+use Rattle.registers.specs.State.{withCpu}
 use Rattle.cpu.specs.StepDefinitions.{step-definitions}
-use Rattle.cpu.specs.declared.address.Fetched.the-variants.{Byte}
-use Rattle.cpu.specs.declared.cpu.Cpu.{Cpu}
+use Rattle.steps.specs.declared.address.Fetched.the-variants.{Byte}
+use Rattle.registers.specs.declared.cpu.Cpu.{Cpu}
 
 -- a Cpu behind k bytes of filler: the counter k further within its page, CC by R0, and all else left
 abbrev pub behindFiller : ℕ → Cpu → Cpu

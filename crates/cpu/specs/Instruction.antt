@@ -3,18 +3,18 @@ use mathlib.Core.Bool.{true, false}
 use mathlib.Core.List.{List}
 use Prim.Native.Nat.{ℕ, _%_, _-_}
 use lib.Bits.{bitAnd, bitOr}
-use Rattle.cpu.specs.Address.{fetchOf, ifFetched}
+use Rattle.steps.specs.Address.{fetchOf, ifFetched}
 use Rattle.alu.specs.Alu.{loadResultOf, rotateLeftOf, rotateRightOf, decimalAdjustOf}
 use Rattle.cpu.specs.Branch.{branchOf, zeroBranchOf, indexedBranchOf, returnIfOf, returnEnableOf}
 use Rattle.decode.specs.Decode.{decodeOf, instructionLength}
-use Rattle.cpu.specs.Operand.{operateOnOperandOf}
-use Rattle.cpu.specs.Port.{readDataOf, writeDataOf}
-use Rattle.cpu.specs.Result.{Ports, Nothing, StepResult, stepResult, runningOf, stoppedOf, advancedOf, registerChangedOf}
-use Rattle.cpu.specs.Cpu.{storedPsu, counterOf, pslOf, psuOf, registerOf, withPsl, withPsu}
-use Rattle.cpu.specs.Psw.{psuWithSense, maskedOf, testedOf}
+use Rattle.steps.specs.Operand.{operateOnOperandOf}
+use Rattle.cpu.specs.Port.{readDataOf, writeDataOf, Ports}
+use Rattle.steps.specs.Result.{Nothing, StepResult, stepResult, runningOf, stoppedOf, advancedOf, registerChangedOf}
+use Rattle.registers.specs.Cpu.{storedPsu, counterOf, pslOf, psuOf, registerOf, withPsl, withPsu, psuWithSense}
+use Rattle.cpu.specs.Psw.{maskedOf, testedOf}
 use Rattle.decode.specs.declared.decode.Instruction.{Instruction}
 use Rattle.decode.specs.declared.decode.Instruction.the-variants.{Unknown, ControlPort, ExtendedPort, Operate, Strz, Nop, Halt, Spsu, Spsl, Lpsu, Lpsl, Cpsu, Cpsl, Ppsu, Ppsl, Tpsu, Tpsl, Tmi, Dar, Rrr, Rrl, Redd, Wrtd, Retc, Rete, Branch, Zbrr, Zbsr, Bxa, Bsxa}
-use Rattle.cpu.specs.declared.cpu.Cpu.{Cpu}
+use Rattle.registers.specs.declared.cpu.Cpu.{Cpu}
 
 -- an instruction a line: the Cpu, the instruction's length, the window, how many of its bytes are locked, what the buffers offer, and the
 -- last two bits of its code

@@ -3,17 +3,18 @@
 use Prim.Native.Nat.{ℕ, _<_}
 use native.Mathlib.Omega.{arith}
 use lib.IntN.{ℤ, pos, negsuc}
-use Rattle.cpu.specs.Address.{addInPage, addWrapping, addressOf, displacementOf, displacedOf, relativeOf}
+use Rattle.steps.specs.Address.{addInPage, addWrapping, addressOf, displacementOf, displacedOf, relativeOf}
 use Rattle.cpu.specs.Branch.{registerCountedOf, clearIIOf}
-use Rattle.cpu.specs.Operand.{steppedIndexOf}
-use Rattle.cpu.specs.Result.{addressAfter, advancedOf, withAluResult}
-use Rattle.cpu.specs.Cpu.{withSP, withoutII, storedPsu, counterOf, psuOf, returnOf, withCounter, withRegister, withPsu, withPsl, withReturn, callOf, returnFromCallOf}
+use Rattle.steps.specs.Operand.{steppedIndexOf}
+use Rattle.steps.specs.Result.{addressAfter, advancedOf}
+use Rattle.registers.specs.AluResults.{withAluResult}
+use Rattle.registers.specs.Cpu.{withSP, withoutII, storedPsu, counterOf, psuOf, returnOf, withCounter, withRegister, withPsu, withPsl, withReturn, callOf, returnFromCallOf}
 use Rattle.common.specs.ChoiceLaws.{if-all}
 use Rattle.common.specs.declared.places.Address.{Address}
 use Rattle.alu.specs.declared.alu.AluResult.{AluResult}
 use Rattle.decode.specs.declared.decode.BranchKind.{BranchKind}
 use Rattle.decode.specs.declared.decode.BranchKind.the-variants.{Bct, Bcf, Brn, Bir, Bdr, Bst, Bsf, Bsn}
-use Rattle.cpu.specs.declared.cpu.Cpu.{Cpu}
+use Rattle.registers.specs.declared.cpu.Cpu.{Cpu}
 
 -- an invariant says something of a Cpu, of the addresses that a machine comes to, and of the values of PSU.
 -- A new one is an instance of this record, and no instruction is looked at again

@@ -1,13 +1,8 @@
 -- Definitions that must be believed, in reading order.
-pub mod Cpu
-pub mod Address
-pub mod Result
-pub mod Operand
 pub mod Branch
 pub mod Psw
 pub mod Port
 pub mod Instruction
-pub mod State
 pub mod Machine
 pub mod WrtdSteps
 -- Names for lists of definitions.
@@ -15,7 +10,6 @@ pub mod StepDefinitions
 -- Laws that the checker has shown, for the layers above.
 pub mod Cases
 pub mod RestLaws
-pub mod AddressLaws
 pub mod InvariantLaws
 pub mod CpuInvariantLaws
 pub mod StepLaws
@@ -23,5 +17,5 @@ pub mod MachineLaws
 pub mod WrtdStepLaws
 pub mod FillerLaws
 -- What private code is held to. No definition above mentions these two.
-pub mod PackedCpu
+pub mod PortView
 pub mod Partition

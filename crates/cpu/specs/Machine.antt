@@ -6,11 +6,12 @@ use mathlib.Core.List.{List}
 use Rattle.common.specs.Choice.{if_then_else_}
 use Rattle.common.specs.Layout.{layoutSize}
 use Rattle.cpu.specs.Instruction.{instructionStep}
-use Rattle.cpu.specs.Result.{Effect, Nothing, Ports, Put, StepResult, Store, Take}
-use Rattle.cpu.specs.State.{withCpu, withRead, withStatus, withWritten}
+use Rattle.steps.specs.Result.{Effect, Nothing, Put, StepResult, Store, Take}
+use Rattle.cpu.specs.Port.{Ports}
+use Rattle.registers.specs.State.{withCpu, withRead, withStatus, withWritten}
 use Rattle.common.specs.declared.layout.Layout.{Layout}
 use Rattle.common.specs.declared.places.Address.{Address}
-use Rattle.cpu.specs.declared.state.State.{State}
+use Rattle.registers.specs.declared.state.State.{State}
 
 -- it knows no memory and no neighbour: address a is the window's byte a. The first bytes of the window are locked, as many as `locked`
 -- says (document 02, U6)

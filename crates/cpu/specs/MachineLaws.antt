@@ -8,9 +8,9 @@ use lib.ListN.{length, length-set, take}
 use lib.Seq.{take-set-le}
 use Rattle.cpu.specs.Instruction.{instructionStep}
 use Rattle.cpu.specs.Machine.{Machine, withState, portsOf, withEffect, afterStep, machineStep}
-use Rattle.cpu.specs.State.{withStatus}
+use Rattle.registers.specs.State.{withStatus, lastStatus}
 use Rattle.common.specs.Repetition.{times}
-use Rattle.cpu.specs.Result.{StepResult, lastStatus}
+use Rattle.steps.specs.Result.{StepResult}
 use Rattle.cpu.specs.InvariantLaws.{KeepsInvariants}
 use Rattle.cpu.specs.CpuInvariantLaws.{CpuSound, keeps-sound, CpuShaped, keeps-shaped}
 use Rattle.cpu.specs.StepLaws.{Ending, continues, halts, stores, takes-input, puts-output, wants-input, finds-full, finds-locked, stops, step-ends}

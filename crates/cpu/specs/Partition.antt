@@ -8,14 +8,14 @@ use lib.ListN.{set, take, drop}
 use Rattle.common.specs.Choice.{if_then_else_}
 use Rattle.common.specs.declared.layout.Layout.{Layout}
 use Rattle.cpu.specs.Machine.{Machine}
-use Rattle.cpu.specs.State.{withCpu, withStatus, withFilled, withRead, withWritten}
-use Rattle.cpu.specs.declared.state.State.{State}
+use Rattle.registers.specs.State.{withCpu, withStatus, withFilled, withRead, withWritten}
+use Rattle.registers.specs.declared.state.State.{State}
 use Rattle.cpu.specs.declared.partition.Bounds.{Bounds}
 use Rattle.cpu.specs.declared.partition.Positions.{Positions}
-use Rattle.cpu.specs.declared.result.PortView.{PortView}
-use Rattle.cpu.specs.declared.result.PackedEffect.{PackedEffect}
-use Rattle.cpu.specs.declared.result.PackedEffect.the-variants.{Nothing, Store, Take, Put}
-use Rattle.cpu.specs.declared.cpu.Cpu.{Cpu}
+use Rattle.cpu.specs.declared.port.PortView.{PortView}
+use Rattle.steps.specs.declared.result.PackedEffect.{PackedEffect}
+use Rattle.steps.specs.declared.result.PackedEffect.the-variants.{Nothing, Store, Take, Put}
+use Rattle.registers.specs.declared.cpu.Cpu.{Cpu}
 
 -- where the parts of n bytes start by their layout, and where they end, cut at n
 unfoldable pub boundsOf : Layout → ℕ → ℕ → Bounds

@@ -1,10 +1,18 @@
 -- Definitions that must be believed: the data port (document 01, "The machine"; manual, "Input/Output Facilities").
+use mathlib.Core.Bool.{Bool}
 use Prim.Native.Nat.{ℕ}
 use Rattle.alu.specs.Alu.{loadResultOf}
 use Rattle.common.specs.Choice.{if_then_else_}
-use Rattle.cpu.specs.Result.{Ports, Take, Put, StepResult, stepResult, stoppedOf, advancedOf, withAluResult}
-use Rattle.cpu.specs.Cpu.{pslOf, registerOf}
-use Rattle.cpu.specs.declared.cpu.Cpu.{Cpu}
+use Rattle.steps.specs.Result.{Take, Put, StepResult, stepResult, stoppedOf, advancedOf}
+use Rattle.registers.specs.AluResults.{withAluResult}
+use Rattle.registers.specs.Cpu.{pslOf, registerOf}
+use Rattle.registers.specs.declared.cpu.Cpu.{Cpu}
+
+-- what a step may see of the buffers: is input unread, its next byte, is the output full
+pub record Ports : Type 0 where
+  pub unread : Bool
+  pub byte : ℕ
+  pub full : Bool
 
 -- REDD: with nothing unread, status 3
 unfoldable pub readDataOf : Cpu → ℕ → Ports → ℕ → StepResult

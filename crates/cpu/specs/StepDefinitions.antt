@@ -2,17 +2,18 @@
 -- instruction, computes.
 -- Nothing here has to be believed.
 use Rattle.common.specs.Choice.{if_then_else_}
-use Rattle.cpu.specs.Address.{displacedOf, displacementOf, fetchOf, ifFetched, ifResolved, pointerOf, relativeOf, resolveOf}
+use Rattle.steps.specs.Address.{displacedOf, displacementOf, fetchOf, ifFetched, ifResolved, pointerOf, relativeOf, resolveOf}
 use Rattle.alu.specs.Alu.{adjustDigitOf, carryInOf, compareCCOf, compareResultOf, conditionCodeOf, decimalAdjustOf, loadResultOf, operationResultOf, overflowOf, rotateLeftOf, rotateResultOf, rotateRightOf, signedOf, sumResultOf, testCCOf, testPslOf}
 use Rattle.cpu.specs.Branch.{branchIfTakenOf, branchOf, clearIIOf, conditionMetOf, indexedBranchOf, isCallOf, isTakenOf, jumpOf, registerCountedOf, returnEnableOf, returnIfOf, targetOf, zeroBranchOf}
-use Rattle.cpu.specs.Cpu.{callOf, counterOf, freshCpu, pslOf, psuOf, registerIndex, registerOf, returnOf, returnFromCallOf, withCounter, withPsl, withPsu, withRegister, withReturn}
+use Rattle.registers.specs.Cpu.{callOf, counterOf, freshCpu, pslOf, psuOf, registerIndex, registerOf, returnOf, returnFromCallOf, withCounter, withPsl, withPsu, withRegister, withReturn, psuWithSense}
 use Rattle.decode.specs.Decode.{decodeOf, eachOfFour, firstAndRest, restAndLast}
 use Rattle.cpu.specs.Instruction.{executeOf, instructionStep}
 use Rattle.cpu.specs.Machine.{machineStep, withEffect}
-use Rattle.cpu.specs.Operand.{absoluteOperandOf, dataRegisterOf, immediateOperandOf, indexValueOf, indexedAddressOf, isLocked, operandOf, operateOnOperandOf, registerOperandOf, relativeOperandOf, steppedIndexOf}
+use Rattle.steps.specs.Operand.{absoluteOperandOf, dataRegisterOf, immediateOperandOf, indexValueOf, indexedAddressOf, isLocked, operandOf, operateOnOperandOf, registerOperandOf, relativeOperandOf, steppedIndexOf}
 use Rattle.cpu.specs.Port.{readDataOf, writeDataOf}
-use Rattle.cpu.specs.Psw.{maskedOf, psuWithSense, testedOf}
-use Rattle.cpu.specs.Result.{advancedOf, operatedOf, registerChangedOf, withAluResult}
+use Rattle.cpu.specs.Psw.{maskedOf, testedOf}
+use Rattle.steps.specs.Result.{advancedOf, operatedOf, registerChangedOf}
+use Rattle.registers.specs.AluResults.{withAluResult}
 
 -- registers, status words and return addresses
 unfoldable pub cpu-definitions : Type 0

@@ -4,29 +4,29 @@ use mathlib.Core.List.{List}
 use mathlib.Core.Path.{_≡_, refl, sym, subst, _∙_}
 use Prim.Native.Nat.{ℕ, _%_, _<_, _≤_}
 use native.Mathlib.Omega.{arith}
-use borrow.Author.Tests.{ltb-true, ltb-false}
+use borrow.Author.Tests.{ltb-true}
 use lib.ListN.{length}
-use Rattle.cpu.specs.Address.{fetchOf, ifFetched, pointerOf, resolveOf}
+use Rattle.steps.specs.Address.{fetchOf, ifFetched, pointerOf, resolveOf}
 use Rattle.cpu.specs.Branch.{registerCountedOf, isCallOf, jumpOf, branchIfTakenOf, targetBy, targetOf, ifTarget, branchOf, zeroBranchOf, indexedBranchOf, returnIfOf, returnEnableOf}
 use Rattle.cpu.specs.InvariantLaws.{KeepsInvariants, LeadsTo, lead-after, lead-bytes, lead-wrapping, lead-relative, keep-advanced, keep-alu-result, keep-call, keep-return-from-call, keep-clear-ii, keep-index, keep-counted}
 use Rattle.decode.specs.Decode.{decodeOf, instructionLength}
 use Rattle.cpu.specs.Instruction.{executeOf, instructionStep}
-use Rattle.cpu.specs.Operand.{Operand, Found, NoOperand, registerOperandOf, immediateOperandOf, relativeOperandOf, absoluteOperandOf, operandOf, ifOperand, accessOf, isLocked, operateOnOperandOf}
-use Rattle.cpu.specs.Port.{readDataOf, writeDataOf}
-use Rattle.cpu.specs.Result.{Ports, Effect, Nothing, Store, Take, Put, StepResult, stepResult, runningOf, stoppedOf, registerChangedOf, operatedOf}
-use Rattle.cpu.specs.Cpu.{counterOf}
+use Rattle.steps.specs.Operand.{Operand, Found, NoOperand, registerOperandOf, immediateOperandOf, relativeOperandOf, absoluteOperandOf, operandOf, ifOperand, accessOf, isLocked, operateOnOperandOf}
+use Rattle.cpu.specs.Port.{readDataOf, writeDataOf, Ports}
+use Rattle.steps.specs.Result.{Effect, Nothing, Store, Take, Put, StepResult, stepResult, runningOf, stoppedOf, registerChangedOf, operatedOf}
+use Rattle.registers.specs.Cpu.{counterOf}
 use Rattle.cpu.specs.Psw.{maskedOf, testedOf}
-use Rattle.cpu.specs.AddressLaws.{byte-all, address-all}
+use Rattle.steps.specs.AddressLaws.{byte-all, address-all}
+use Rattle.steps.specs.OperandLaws.{read-free, locked-below, free-above}
 use Rattle.common.specs.Choice.{if_then_else_}
 use Rattle.common.specs.ChoiceLaws.{if-all}
 use Rattle.cpu.specs.WrtdSteps.{isWrtd, isAtWrtd}
 use Rattle.common.specs.declared.places.Address.{Address}
-use Rattle.cpu.specs.declared.address.Fetched.{Fetched}
-use Rattle.cpu.specs.declared.address.Fetched.the-variants.{Byte, NoByte}
-use Rattle.cpu.specs.declared.address.Resolved.{Resolved}
-use Rattle.cpu.specs.declared.address.Resolved.the-variants.{At, Outside}
+use Rattle.steps.specs.declared.address.Fetched.{Fetched}
+use Rattle.steps.specs.declared.address.Fetched.the-variants.{Byte, NoByte}
+use Rattle.steps.specs.declared.address.Resolved.{Resolved}
+use Rattle.steps.specs.declared.address.Resolved.the-variants.{At, Outside}
 use Rattle.alu.specs.declared.alu.AluResult.{AluResult}
-use Rattle.alu.specs.declared.alu.Operation.{Operation}
 use Rattle.cpu.specs.declared.branch.Target.{Target}
 use Rattle.cpu.specs.declared.branch.Target.the-variants.{To, NoTarget}
 use Rattle.decode.specs.declared.decode.Instruction.{Instruction}
@@ -38,7 +38,7 @@ use Rattle.decode.specs.declared.decode.BranchMode.{BranchMode}
 use Rattle.decode.specs.declared.decode.BranchMode.the-variants as branch
 use Rattle.decode.specs.declared.decode.Access.{Access}
 use Rattle.decode.specs.declared.decode.Access.the-variants.{Read, Write}
-use Rattle.cpu.specs.declared.cpu.Cpu.{Cpu}
+use Rattle.registers.specs.declared.cpu.Cpu.{Cpu}
 
 -- the nine ways in which a step ends. Two of them are WRTD's, and they are its only ones. Whatever the instruction that stores, the byte is
 -- inside the window; at or above the lock it is stored, below it the step stops
@@ -52,11 +52,6 @@ pub data Ending (cpu : Cpu) (window : List ℕ) (locked : ℕ) (p : Ports) : Boo
   stops : (n : ℕ) → 5 ≤ n → n ≤ 7 → Ending cpu window locked p false (stoppedOf cpu n)
   puts-output : (next : Cpu) (v : ℕ) → KeepsInvariants cpu next → p .full ≡ false → Ending cpu window locked p true (stepResult next 1 (Put v))
   finds-full : p .full ≡ true → Ending cpu window locked p true (stoppedOf cpu 4)
-
--- the lock stops no read
-read-free : (f : Operation) (a : Address) (n : ℕ) → isLocked (Read f) a n ≡ false
-unfolding isLocked
-read-free f a n = refl
 
 module _ (cpu : Cpu) (w : List ℕ) (n : ℕ) (p : Ports) where
   abbrev Ends : StepResult → Type 1
@@ -111,15 +106,14 @@ module _ (cpu : Cpu) (w : List ℕ) (n : ℕ) (p : Ports) where
 
       -- a store that is carried out is not below the lock
       access-ends : (access : Access) (b : ℕ) (a : Address) (d : ℕ) (next : Cpu) → a .0 < length w → KeepsInvariants cpu next → isLocked access a n ≡ false → Ends (accessOf access next d b a)
-      unfolding operatedOf isLocked
+      unfolding operatedOf
       access-ends (Read f) b a d next h g e = continues _ (λ i s. keep-alu-result next d _ i (g i s))
-      access-ends Write b a d next h g e = stores next a _ g (ltb-false _ _ e) h
+      access-ends Write b a d next h g e = stores next a _ g (free-above a n e) h
 
       -- one that is below it stops there
       locked-ends : (access : Access) (a : Address) → a .0 < length w → isLocked access a n ≡ true → Ends (stoppedOf cpu 8)
-      unfolding isLocked
       locked-ends (Read f) a h e = absurd (false≢true (sym (read-free f a n) ∙ e))
-      locked-ends Write a h e = finds-locked a (ltb-true _ _ e) h
+      locked-ends Write a h e = finds-locked a (locked-below a n e) h
 
       if-operand-ends : (o : Operand) (access : Access) → OperandInside o → Ends (ifOperand o (stoppedOf cpu 6) (λ b a d next. if isLocked access a n then stoppedOf cpu 8 else accessOf access next d b a))
       if-operand-ends (Found b a d next) access (found _ _ _ _ h g) = if-all Ends (λ e. locked-ends access a h e) (λ e. access-ends access b a d next h g e)

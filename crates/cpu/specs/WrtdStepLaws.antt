@@ -8,7 +8,7 @@ use Rattle.common.specs.Choice.{if_then_else_}
 use Rattle.common.specs.Repetition.{times}
 use Rattle.cpu.specs.Instruction.{instructionStep}
 use Rattle.cpu.specs.Machine.{Machine, portsOf, withEffect, afterStep, machineStep}
-use Rattle.cpu.specs.Result.{StepResult}
+use Rattle.steps.specs.Result.{StepResult}
 use Rattle.cpu.specs.StepLaws.{Ending, continues, halts, stores, takes-input, puts-output, wants-input, finds-full, finds-locked, stops, step-ends}
 use Rattle.cpu.specs.WrtdSteps.{isAtWrtd, executesWrtd, wrtdSteps}
 

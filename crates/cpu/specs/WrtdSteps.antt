@@ -5,13 +5,13 @@ use Prim.Native.Nat.{ℕ, zero, suc, _+_}
 use lib.Dec.{eqb}
 use Rattle.common.specs.Choice.{if_then_else_}
 use Rattle.common.specs.Repetition.{times}
-use Rattle.cpu.specs.Address.{fetchOf, ifFetched}
+use Rattle.steps.specs.Address.{fetchOf, ifFetched}
 use Rattle.decode.specs.Decode.{decodeOf}
 use Rattle.cpu.specs.Machine.{Machine, portsOf, machineStep}
-use Rattle.cpu.specs.Cpu.{counterOf}
+use Rattle.registers.specs.Cpu.{counterOf}
 use Rattle.decode.specs.declared.decode.Instruction.{Instruction}
 use Rattle.decode.specs.declared.decode.Instruction.the-variants.{Unknown, ControlPort, ExtendedPort, Operate, Strz, Nop, Halt, Spsu, Spsl, Lpsu, Lpsl, Cpsu, Cpsl, Ppsu, Ppsl, Tpsu, Tpsl, Tmi, Dar, Rrr, Rrl, Redd, Wrtd, Retc, Rete, Branch, Zbrr, Zbsr, Bxa, Bsxa}
-use Rattle.cpu.specs.declared.cpu.Cpu.{Cpu}
+use Rattle.registers.specs.declared.cpu.Cpu.{Cpu}
 
 -- the instruction is WRTD
 unfoldable pub isWrtd : Instruction → Bool

@@ -1,20 +1,17 @@
 // Branches, calls and returns.
 ghost use mathlib.Core.Bool.{not};
 ghost use mathlib.Core.Path.{_≡_};
-ghost use Prim.Native.Nat.{_<_};
 ghost use Rattle.cpu.specs.Branch.{conditionMetOf, registerCountedOf, registerNotZero, isTakenOf, isCallOf, jumpOf, branchIfTakenOf, targetOf, branchOf, zeroBranchOf, indexedBranchOf, returnIfOf, clearIIOf, returnEnableOf};
 ghost use Rattle.decode.specs.Decode.{branchModeLength};
-ghost use Rattle.cpu.specs.PackedCpu.{cpuOf, stepResultOf};
-use crate::address;
-use crate::address::Fetched;
-use crate::address::Resolved;
-use crate::packed_cpu;
-use crate::packed_cpu::PackedCpu;
-use crate::result;
-use crate::result::PackedStep;
+ghost use Rattle.registers.specs.PackedCpu.{cpuOf};
+ghost use Rattle.steps.specs.PackedStep.{stepResultOf};
 use common::Address;
 use decode::BranchKind;
 use decode::BranchMode;
+use registers::PackedCpu;
+use steps::Fetched;
+use steps::PackedStep;
+use steps::Resolved;
 
 // What a branch's own bytes say: the indirect bit, the address, and the address of the next instruction.
 pub enum Target {
@@ -35,10 +32,9 @@ fn condition_not_met(psl: u8, v: u8) -> bool
 }
 
 fn register_not_zero(m: PackedCpu, r: u8) -> bool
-    requires { ⌜ r < 4 ⌝ }
     ensures { λ t. ⌜ t ≡ registerNotZero (cpuOf m) r ⌝ }
 {
-    if packed_cpu::register(m, r) == 0 {
+    if registers::register(m, r) == 0 {
         false
     } else {
         true
@@ -46,19 +42,18 @@ fn register_not_zero(m: PackedCpu, r: u8) -> bool
 }
 
 fn register_counted(kind: BranchKind, m: PackedCpu, r: u8) -> PackedCpu
-    requires { ⌜ r < 4 ⌝ }
     ensures { λ n. ⌜ cpuOf n ≡ registerCountedOf kind (cpuOf m) r ⌝ }
 {
     match kind {
         BranchKind::Bir => {
-            let v = packed_cpu::register(m, r);
+            let v = registers::register(m, r);
             let u = std::num::wrapping_add_u8(v, 1);
-            packed_cpu::with_register(m, r, u)
+            registers::with_register(m, r, u)
         }
         BranchKind::Bdr => {
-            let v = packed_cpu::register(m, r);
+            let v = registers::register(m, r);
             let u = std::num::wrapping_sub_u8(v, 1);
-            packed_cpu::with_register(m, r, u)
+            registers::with_register(m, r, u)
         }
         BranchKind::Bct => m,
         BranchKind::Bcf => m,
@@ -70,17 +65,16 @@ fn register_counted(kind: BranchKind, m: PackedCpu, r: u8) -> PackedCpu
 }
 
 fn is_taken(kind: BranchKind, m: PackedCpu, r: u8) -> bool
-    requires { ⌜ r < 4 ⌝ }
     ensures { λ t. ⌜ t ≡ isTakenOf kind (cpuOf m) r ⌝ }
 {
     match kind {
-        BranchKind::Bct => condition_met(packed_cpu::psl(m), r),
-        BranchKind::Bcf => condition_not_met(packed_cpu::psl(m), r),
+        BranchKind::Bct => condition_met(registers::psl(m), r),
+        BranchKind::Bcf => condition_not_met(registers::psl(m), r),
         BranchKind::Brn => register_not_zero(m, r),
         BranchKind::Bir => register_not_zero(m, r),
         BranchKind::Bdr => register_not_zero(m, r),
-        BranchKind::Bst => condition_met(packed_cpu::psl(m), r),
-        BranchKind::Bsf => condition_not_met(packed_cpu::psl(m), r),
+        BranchKind::Bst => condition_met(registers::psl(m), r),
+        BranchKind::Bsf => condition_not_met(registers::psl(m), r),
         BranchKind::Bsn => register_not_zero(m, r),
     }
 }
@@ -104,12 +98,12 @@ fn jump(call: bool, m: PackedCpu, a: Address, next: Address) -> PackedStep
     ensures { λ s. ⌜ stepResultOf s ≡ jumpOf call (cpuOf m) a next ⌝ }
 {
     if call {
-        let n = packed_cpu::call(m, next);
-        let t = packed_cpu::with_counter(n, a);
-        result::running(t)
+        let n = registers::call(m, next);
+        let t = registers::with_counter(n, a);
+        steps::running(t)
     } else {
-        let t = packed_cpu::with_counter(m, a);
-        result::running(t)
+        let t = registers::with_counter(m, a);
+        steps::running(t)
     }
 }
 
@@ -123,40 +117,39 @@ fn branch_if_taken(
     a: Address,
     next: Address,
 ) -> PackedStep
-    requires { ⌜ r < 4 ⌝ }
     ensures { λ s. ⌜ stepResultOf s ≡ branchIfTakenOf kind (cpuOf m) (cpuOf n) (now (window .entry)) r indirect a next ⌝ }
 {
     if is_taken(kind, n, r) {
-        let Resolved::At(t) = address::resolve(window, indirect, a) else {
-            return result::stopped(m, 6);
+        let Resolved::At(t) = steps::resolve(window, indirect, a) else {
+            return steps::stopped(m, 6);
         };
         let call = is_call(kind);
         jump(call, n, t, next)
     } else {
-        let t = packed_cpu::with_counter(n, next);
-        result::running(t)
+        let t = registers::with_counter(n, next);
+        steps::running(t)
     }
 }
 
 fn target_of(mode: BranchMode, m: PackedCpu, window: &[u8]) -> Target
     ensures { λ t. ⌜ t ≡ targetOf mode (cpuOf m) (branchModeLength mode) (now (window .entry)) ⌝ }
 {
-    let second_at = result::address_after(m, 1);
-    let Fetched::Byte(high) = address::fetch(window, second_at) else {
+    let second_at = steps::address_after(m, 1);
+    let Fetched::Byte(high) = steps::fetch(window, second_at) else {
         return Target::NoTarget;
     };
-    let third_at = result::address_after(m, 2);
+    let third_at = steps::address_after(m, 2);
     match mode {
         BranchMode::Relative => {
-            let a = address::relative(third_at, high);
+            let a = steps::relative(third_at, high);
             Target::To(high / 128, a, third_at)
         }
         BranchMode::Absolute => {
-            let Fetched::Byte(low) = address::fetch(window, third_at) else {
+            let Fetched::Byte(low) = steps::fetch(window, third_at) else {
                 return Target::NoTarget;
             };
-            let a = address::address_of(high, low);
-            let next = result::address_after(m, 3);
+            let a = steps::address_of(high, low);
+            let next = steps::address_after(m, 3);
             Target::To(high / 128, a, next)
         }
     }
@@ -169,11 +162,10 @@ pub(crate) fn branch(
     window: &[u8],
     r: u8,
 ) -> PackedStep
-    requires { ⌜ r < 4 ⌝ }
     ensures { λ s. ⌜ stepResultOf s ≡ branchOf mode kind (cpuOf m) (branchModeLength mode) (now (window .entry)) r ⌝ }
 {
     let Target::To(indirect, a, next) = target_of(mode, m, window) else {
-        return result::stopped(m, 6);
+        return steps::stopped(m, 6);
     };
     let n = register_counted(kind, m, r);
     branch_if_taken(kind, m, n, window, r, indirect, a, next)
@@ -182,67 +174,65 @@ pub(crate) fn branch(
 pub(crate) fn zero_branch(call: bool, m: PackedCpu, window: &[u8]) -> PackedStep
     ensures { λ s. ⌜ stepResultOf s ≡ zeroBranchOf call (cpuOf m) 2 (now (window .entry)) ⌝ }
 {
-    let at = result::address_after(m, 1);
-    let Fetched::Byte(b) = address::fetch(window, at) else {
-        return result::stopped(m, 6);
+    let at = steps::address_after(m, 1);
+    let Fetched::Byte(b) = steps::fetch(window, at) else {
+        return steps::stopped(m, 6);
     };
-    let a = address::relative(Address(0), b);
-    let Resolved::At(t) = address::resolve(window, b / 128, a) else {
-        return result::stopped(m, 6);
+    let a = steps::relative(Address(0), b);
+    let Resolved::At(t) = steps::resolve(window, b / 128, a) else {
+        return steps::stopped(m, 6);
     };
-    let next = result::address_after(m, 2);
+    let next = steps::address_after(m, 2);
     jump(call, m, t, next)
 }
 
 pub(crate) fn indexed_branch(call: bool, m: PackedCpu, window: &[u8]) -> PackedStep
     ensures { λ s. ⌜ stepResultOf s ≡ indexedBranchOf call (cpuOf m) 3 (now (window .entry)) ⌝ }
 {
-    let second_at = result::address_after(m, 1);
-    let Fetched::Byte(high) = address::fetch(window, second_at) else {
-        return result::stopped(m, 6);
+    let second_at = steps::address_after(m, 1);
+    let Fetched::Byte(high) = steps::fetch(window, second_at) else {
+        return steps::stopped(m, 6);
     };
-    let third_at = result::address_after(m, 2);
-    let Fetched::Byte(low) = address::fetch(window, third_at) else {
-        return result::stopped(m, 6);
+    let third_at = steps::address_after(m, 2);
+    let Fetched::Byte(low) = steps::fetch(window, third_at) else {
+        return steps::stopped(m, 6);
     };
-    let a = address::address_of(high, low);
-    let Resolved::At(t) = address::resolve(window, high / 128, a) else {
-        return result::stopped(m, 6);
+    let a = steps::address_of(high, low);
+    let Resolved::At(t) = steps::resolve(window, high / 128, a) else {
+        return steps::stopped(m, 6);
     };
-    let v = packed_cpu::register(m, 3);
-    let to = address::add_wrapping(t, v);
-    let next = result::address_after(m, 3);
+    let v = registers::register(m, 3);
+    let to = steps::add_wrapping(t, v);
+    let next = steps::address_after(m, 3);
     jump(call, m, to, next)
 }
 
 pub(crate) fn return_if(m: PackedCpu, v: u8) -> PackedStep
     ensures { λ s. ⌜ stepResultOf s ≡ returnIfOf (cpuOf m) 1 v ⌝ }
 {
-    if condition_met(packed_cpu::psl(m), v) {
-        let n = packed_cpu::return_from_call(m);
-        result::running(n)
+    if condition_met(registers::psl(m), v) {
+        let n = registers::return_from_call(m);
+        steps::running(n)
     } else {
-        let t = result::advanced(m, 1);
-        result::running(t)
+        steps::running_after(m, 1)
     }
 }
 
 fn clear_ii(m: PackedCpu) -> PackedCpu
     ensures { λ n. ⌜ cpuOf n ≡ clearIIOf (cpuOf m) ⌝ }
 {
-    let u = packed_cpu::psu(m);
-    packed_cpu::with_psu(m, u / 64 * 64 + u % 32)
+    let u = registers::psu(m);
+    registers::with_psu(m, u / 64 * 64 + u % 32)
 }
 
 pub(crate) fn return_enable(m: PackedCpu, v: u8) -> PackedStep
     ensures { λ s. ⌜ stepResultOf s ≡ returnEnableOf (cpuOf m) 1 v ⌝ }
 {
-    if condition_met(packed_cpu::psl(m), v) {
-        let n = packed_cpu::return_from_call(m);
+    if condition_met(registers::psl(m), v) {
+        let n = registers::return_from_call(m);
         let t = clear_ii(n);
-        result::running(t)
+        steps::running(t)
     } else {
-        let t = result::advanced(m, 1);
-        result::running(t)
+        steps::running_after(m, 1)
     }
 }

@@ -1,22 +1,19 @@
 // One step: the first byte is fetched and decoded, and its instruction executed.
 ghost use mathlib.Core.Path.{_≡_};
-ghost use Prim.Native.Nat.{_<_};
-ghost use Rattle.cpu.specs.PackedCpu.{cpuOf, stepResultOf, portsOfView};
+ghost use Rattle.registers.specs.PackedCpu.{cpuOf};
+ghost use Rattle.steps.specs.PackedStep.{stepResultOf};
+ghost use Rattle.cpu.specs.PortView.{portsOfView};
 ghost use Rattle.decode.specs.Decode.{instructionLength};
 ghost use Rattle.cpu.specs.Instruction.{executeOf, instructionStep};
-use crate::address;
-use crate::address::Fetched;
 use crate::branch;
-use crate::operand;
-use crate::packed_cpu;
-use crate::packed_cpu::PackedCpu;
 use crate::port;
+use crate::port::PortView;
 use crate::psw;
-use crate::result;
-use crate::result::PackedEffect;
-use crate::result::PackedStep;
-use crate::result::PortView;
 use decode::Instruction;
+use registers::PackedCpu;
+use steps::Fetched;
+use steps::PackedEffect;
+use steps::PackedStep;
 
 fn execute(
     i: Instruction,
@@ -27,14 +24,13 @@ fn execute(
     o: PortView,
     r: u8,
 ) -> PackedStep
-    requires { ⌜ r < 4 ⌝ }
     ensures { λ s. ⌜ stepResultOf s ≡ executeOf i (cpuOf m) (instructionLength i) (now (window .entry)) locked (portsOfView o (now (source .entry))) r ⌝ }
 {
     match i {
-        Instruction::Unknown => result::stopped(m, 5),
-        Instruction::ControlPort => result::stopped(m, 7),
-        Instruction::ExtendedPort => result::stopped(m, 7),
-        Instruction::Operate(mode, access) => operand::operate_on_operand(
+        Instruction::Unknown => steps::stopped(m, 5),
+        Instruction::ControlPort => steps::stopped(m, 7),
+        Instruction::ExtendedPort => steps::stopped(m, 7),
+        Instruction::Operate(mode, access) => steps::operate_on_operand(
             mode,
             access,
             m,
@@ -43,39 +39,34 @@ fn execute(
             r,
         ),
         Instruction::Strz => {
-            let v = packed_cpu::register(m, 0);
-            let l = alu::load_result(packed_cpu::psl(m), v);
-            result::register_changed(m, r, l)
+            let v = registers::register(m, 0);
+            let n = registers::load(m, r, v);
+            steps::running_after(n, 1)
         }
-        Instruction::Nop => {
-            let t = result::advanced(m, 1);
-            result::running(t)
-        }
+        Instruction::Nop => steps::running_after(m, 1),
         Instruction::Halt => {
-            let t = result::advanced(m, 1);
-            result::step_result(t, 2, PackedEffect::Nothing)
+            let t = steps::advanced(m, 1);
+            steps::step_result(t, 2, PackedEffect::Nothing)
         }
         Instruction::Spsu => {
             let v = psw::psu_with_sense(m, o.unread);
-            let l = alu::load_result(packed_cpu::psl(m), v);
-            result::register_changed(m, 0, l)
+            let n = registers::load(m, 0, v);
+            steps::running_after(n, 1)
         }
         Instruction::Spsl => {
-            let p = packed_cpu::psl(m);
-            let l = alu::load_result(p, p);
-            result::register_changed(m, 0, l)
+            let p = registers::psl(m);
+            let n = registers::load(m, 0, p);
+            steps::running_after(n, 1)
         }
         Instruction::Lpsu => {
-            let v = packed_cpu::register(m, 0);
-            let n = packed_cpu::with_psu(m, psw::stored_psu(v));
-            let t = result::advanced(n, 1);
-            result::running(t)
+            let v = registers::register(m, 0);
+            let n = registers::with_psu(m, registers::stored_psu(v));
+            steps::running_after(n, 1)
         }
         Instruction::Lpsl => {
-            let v = packed_cpu::register(m, 0);
-            let n = packed_cpu::with_psl(m, v);
-            let t = result::advanced(n, 1);
-            result::running(t)
+            let v = registers::register(m, 0);
+            let n = registers::with_psl(m, v);
+            steps::running_after(n, 1)
         }
         Instruction::Cpsu => psw::clear_psu(m, window),
         Instruction::Cpsl => psw::clear_psl(m, window),
@@ -86,27 +77,24 @@ fn execute(
             psw::tested(m, window, v)
         }
         Instruction::Tpsl => {
-            let v = packed_cpu::psl(m);
+            let v = registers::psl(m);
             psw::tested(m, window, v)
         }
         Instruction::Tmi => {
-            let v = packed_cpu::register(m, r);
+            let v = registers::register(m, r);
             psw::tested(m, window, v)
         }
         Instruction::Dar => {
-            let v = packed_cpu::register(m, r);
-            let d = alu::decimal_adjust(packed_cpu::psl(m), v);
-            result::register_changed(m, r, d)
+            let n = registers::adjust(m, r);
+            steps::running_after(n, 1)
         }
         Instruction::Rrr => {
-            let v = packed_cpu::register(m, r);
-            let d = alu::rotate_right(packed_cpu::psl(m), v);
-            result::register_changed(m, r, d)
+            let n = registers::rotate_right(m, r);
+            steps::running_after(n, 1)
         }
         Instruction::Rrl => {
-            let v = packed_cpu::register(m, r);
-            let d = alu::rotate_left(packed_cpu::psl(m), v);
-            result::register_changed(m, r, d)
+            let n = registers::rotate_left(m, r);
+            steps::running_after(n, 1)
         }
         Instruction::Redd => port::read_data(m, source, o, r),
         Instruction::Wrtd => port::write_data(m, source, o, r),
@@ -129,9 +117,9 @@ pub(crate) fn step(
 ) -> PackedStep
     ensures { λ s. ⌜ stepResultOf s ≡ instructionStep (cpuOf m) (now (window .entry)) locked (portsOfView o (now (source .entry))) ⌝ }
 {
-    let here = packed_cpu::counter(m);
-    let Fetched::Byte(op) = address::fetch(window, here) else {
-        return result::stopped(m, 6);
+    let here = registers::counter(m);
+    let Fetched::Byte(op) = steps::fetch(window, here) else {
+        return steps::stopped(m, 6);
     };
     let i = Instruction::decode(op);
     execute(i, m, window, locked, source, o, op % 4)

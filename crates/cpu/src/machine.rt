@@ -2,11 +2,10 @@
 ghost use mathlib.Core.Path.{_≡_};
 ghost use Rattle.cpu.specs.Machine.{beyond, machineOf, machineStep};
 ghost use Rattle.common.specs.Repetition.{times};
-use crate::packed_cpu;
 use crate::partition;
 use crate::partition::Positions;
-use crate::state::State;
 use common::Layout;
+use registers::State;
 
 // At most so many steps, until the status is not 1. A caller lends exactly the partition's bytes. A slice that is shorter than the
 // layout cuts the parts behind its end; of one that is longer the rest is untouched.
@@ -15,7 +14,7 @@ pub fn run(state: State, partition: &mut [u8], layout: Layout, steps: u64) -> St
     ensures { λ s. ⌜ beyond layout (now (partition .exit)) ≡ beyond layout (now (partition .entry)) ⌝ }
 {
     let b = partition::bounds_of(layout, state.filled, partition.len());
-    let mut cpu = packed_cpu::pack(state.cpu);
+    let mut cpu = registers::pack(state.cpu);
     let mut status = state.status;
     let mut k = Positions {
         read: state.read as usize,
@@ -36,7 +35,7 @@ pub fn run(state: State, partition: &mut [u8], layout: Layout, steps: u64) -> St
         i += 1;
     }
     let mut next = state;
-    next.cpu = packed_cpu::unpack(cpu);
+    next.cpu = registers::unpack(cpu);
     next.status = status;
     next.read = k.read as u16;
     next.written = k.written as u16;

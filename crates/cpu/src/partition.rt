@@ -2,15 +2,17 @@
 ghost use mathlib.Core.Path.{_≡_};
 ghost use Prim.Native.Nat.{_<_, _≤_, min};
 ghost use lib.ListN.{length, take};
-ghost use Rattle.cpu.specs.PackedCpu.{cpuOf, stepResultOf, portsOfView};
+ghost use Rattle.registers.specs.PackedCpu.{cpuOf};
+ghost use Rattle.steps.specs.PackedStep.{stepResultOf};
+ghost use Rattle.cpu.specs.PortView.{portsOfView};
 ghost use Rattle.cpu.specs.Partition.{boundsOf, BoundsHold, portViewOf, partitionAfter, applyEffectOf};
 ghost use Rattle.cpu.specs.Instruction.{instructionStep};
 use crate::instruction;
-use crate::packed_cpu::PackedCpu;
-use crate::result::PackedEffect;
-use crate::result::PackedStep;
-use crate::result::PortView;
+use crate::port::PortView;
 use common::Layout;
+use registers::PackedCpu;
+use steps::PackedEffect;
+use steps::PackedStep;
 
 // The bounds of a partition's parts. `window_end`, `input_end` and `output_end` are cut at the end of the bytes at hand; `input_start`,
 // `output_start` and `end` are as the sizes have them. `locked` is how many bytes of the window are locked, and `filled` how far the input

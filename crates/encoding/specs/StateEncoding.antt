@@ -12,8 +12,8 @@
 use mathlib.Core.List.{List, [], _∷_}
 use Prim.Native.Nat.{ℕ, _+_}
 use lib.ListN.{getD}
-use Rattle.cpu.specs.declared.state.State.{State}
-use Rattle.cpu.specs.declared.cpu.Cpu.{Cpu}
+use Rattle.registers.specs.declared.state.State.{State}
+use Rattle.registers.specs.declared.cpu.Cpu.{Cpu}
 use Rattle.slices.specs.Numbers.{u16Bytes, u16sBytes, u16At, u16sAt}
 use Rattle.slices.specs.Slices.{concat, tabulate}
 

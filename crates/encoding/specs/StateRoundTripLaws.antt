@@ -6,8 +6,8 @@ use native.Mathlib.Omega.{arith}
 use lib.ListN.{getD, length}
 use lib.Seq.{take-all}
 use Rattle.cpu.specs.CpuInvariantLaws.{CpuShaped}
-use Rattle.cpu.specs.State.{withCpu}
-use Rattle.cpu.specs.declared.state.State.{State}
+use Rattle.registers.specs.State.{withCpu}
+use Rattle.registers.specs.declared.state.State.{State}
 use Rattle.slices.specs.NumberLaws.{u16-decoded, u16-encoded, u16s-encoded}
 use Rattle.slices.specs.PieceLaws.{list-tabulated, part-tabulated, parts-concat}
 use Rattle.slices.specs.Slices.{AllBytes, concat, tabulate}

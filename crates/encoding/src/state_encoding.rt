@@ -1,8 +1,8 @@
 // A machine's state as bytes, and back.
 ghost use mathlib.Core.Path.{_≡_};
 ghost use Rattle.encoding.specs.StateEncoding.{cpuFromBytes, registersFromBytes, returnsFromBytes, stateFromBytes, stateBytes};
-use cpu::Cpu;
-use cpu::State;
+use registers::Cpu;
+use registers::State;
 use slices::byte;
 use slices::copy;
 use slices::put_byte;

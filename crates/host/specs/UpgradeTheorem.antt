@@ -17,7 +17,7 @@ use Rattle.slices.specs.Numbers.{u16At}
 use Rattle.slices.specs.PieceLaws.{each-tabulated}
 use Rattle.slices.specs.SliceLaws.{part-length}
 use Rattle.slices.specs.Slices.{AllBytes, partOf}
-use Rattle.cpu.specs.Result.{lastStatus}
+use Rattle.registers.specs.State.{lastStatus}
 use Rattle.table.specs.FreeBytes.{counted}
 use Rattle.table.specs.Recounting.{answer}
 use Rattle.table.specs.declared.table.Answer.{Answer}

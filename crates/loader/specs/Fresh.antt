@@ -4,9 +4,9 @@ use mathlib.Core.List.{List, [], _++_}
 use Prim.Native.Nat.{ℕ}
 use lib.ListN.{length, replicate}
 use Rattle.cpu.specs.Machine.{Machine, machineOf}
-use Rattle.cpu.specs.State.{emptyState, withStatus, withFilled}
-use Rattle.cpu.specs.Cpu.{freshCpu}
-use Rattle.cpu.specs.declared.state.State.{State}
+use Rattle.registers.specs.State.{emptyState, withStatus, withFilled}
+use Rattle.registers.specs.Cpu.{freshCpu}
+use Rattle.registers.specs.declared.state.State.{State}
 use Rattle.pattern.specs.Image.{padded}
 use Rattle.pattern.specs.Reader.{readOf, parametersOf, ifAccepted, imageOf, inputBodyOf}
 use Rattle.pattern.specs.declared.parameters.Parameters.{Parameters}

@@ -9,9 +9,9 @@ ghost use Rattle.slices.specs.Slices.{copied};
 ghost use Rattle.loader.specs.Fresh.{freshState, freshBytes};
 use common::Layout;
 use common::Location;
-use cpu::Cpu;
-use cpu::State;
 use pattern::Parameters;
+use registers::Cpu;
+use registers::State;
 
 // A machine at the start address, with so many bytes unread.
 pub fn fresh_state(parameters: Parameters, filled: u16) -> State

@@ -4,7 +4,7 @@ ghost use Prim.Native.Nat.{_*_};
 ghost use Rattle.cpu.specs.Machine.{beyond, machineOf, machineStep};
 ghost use Rattle.common.specs.Repetition.{times};
 use common::Layout;
-use cpu::State;
+use registers::State;
 
 // So many rounds of a quantum each, until the machine stops; its state stays in a local from one to the next.
 pub(crate) fn run_rounds(

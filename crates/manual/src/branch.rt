@@ -1,6 +1,6 @@
 // Branches on a stepped register, and those that are always taken.
 use crate::machine;
-use cpu::State;
+use registers::State;
 
 // "Branch on Incrementing Register", "Branch on Decrementing Register" and appendix F ("Notes About the 2650 Processor"), note 4:
 // the register is stepped first, from 255 to 0 and back, and the branch is not taken exactly if it is then zero. From address 0 to 10h.

@@ -1,7 +1,7 @@
 // "Decimal Adjust Register": BCD arithmetic on two packed digits, for every pair of two-digit numbers.
 ghost use Prim.Native.Nat.{_<_};
 use crate::machine;
-use cpu::State;
+use registers::State;
 
 fn bcd(n: u64) -> u8 {
     (n / 10 % 10 * 16 + n % 10) as u8

@@ -1,6 +1,6 @@
 // Standard output, piece by piece. What a write answers is left: a program that can't write has nobody to tell.
 use crate::machine;
-use cpu::State;
+use registers::State;
 
 pub(crate) fn text(s: &[u8]) {
     let _written = io::write_all(1, s);

@@ -1,7 +1,7 @@
 // Relative addresses around the ends of a page.
 use crate::machine;
 use crate::print;
-use cpu::State;
+use registers::State;
 
 // A two-byte instruction at 2002h, in page 1, so that a branch to page 0 shows.
 fn in_page_1(code: u8, displacement: u8) -> State {

@@ -2,7 +2,7 @@
 use Prim.Native.Nat.{ℕ, _<_}
 use mathlib.Core.Path.{_≡_}
 use native.Mathlib.Omega.{arith}
-use Rattle.cpu.specs.Cpu.{storedPsu}
+use Rattle.registers.specs.Cpu.{storedPsu}
 use Rattle.table.specs.TableConditionLaws.{HoldsPattern}
 use Rattle.table.specs.Table.{slotAt}
 use Rattle.table.specs.declared.table.Table.{Table}

@@ -1,6 +1,6 @@
 // Reporting on a slot.
 use crate::reported::Report;
-use cpu::State;
+use registers::State;
 use table::Table;
 use table::loaded_slot_refusal;
 use table::table_refusal;

@@ -13,7 +13,7 @@ use Rattle.common.specs.Refusals.{refusalBy}
 use Rattle.common.specs.Repetition.{times}
 use Rattle.common.specs.RepetitionLaws.{times-zero, times-suc}
 use Rattle.cpu.specs.Machine.{Machine, machineOf, machineStep}
-use Rattle.cpu.specs.declared.state.State.{State}
+use Rattle.registers.specs.declared.state.State.{State}
 use Rattle.slices.specs.SliceLaws.{copied-whole}
 use Rattle.slices.specs.Slices.{partOf, copied}
 use Rattle.supervisor.specs.Calls.{run, refusal, afterAccepted}

@@ -2,7 +2,7 @@
 use Rattle.common.specs.Choice.{if_then_else_}
 use Rattle.common.specs.ConditionDefinitions.{condition-definitions}
 use Rattle.common.specs.Repetition.{times}
-use Rattle.cpu.specs.Cpu.{freshCpu}
+use Rattle.registers.specs.Cpu.{freshCpu}
 use Rattle.loader.specs.Fresh.{freshState}
 use Rattle.slices.specs.Slices.{copied}
 use Rattle.queries.specs.Queries.{queryConditions}

@@ -15,9 +15,9 @@ use Rattle.common.specs.Refusals.{Condition, refusalBy}
 use Rattle.common.specs.TestLaws.{or-false, OneTo}
 use Rattle.common.specs.declared.layout.Layout.{Layout}
 use Rattle.common.specs.declared.places.Location.{Location}
-use Rattle.cpu.specs.Result.{lastStatus}
-use Rattle.cpu.specs.declared.state.State.{State}
-use Rattle.cpu.specs.Cpu.{freshCpu}
+use Rattle.registers.specs.State.{lastStatus}
+use Rattle.registers.specs.declared.state.State.{State}
+use Rattle.registers.specs.Cpu.{freshCpu}
 use Rattle.loader.specs.Fresh.{freshState, freshBytes, fileState}
 use Rattle.loader.specs.FreshLaws.{fresh-length, zeros-fifteen-bits}
 use Rattle.pattern.specs.Reader.{readOf, parametersOf}

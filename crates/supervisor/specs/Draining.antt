@@ -3,13 +3,13 @@ use Prim.Native.Nat.{ℕ}
 use lib.Dec.{ltb}
 use mathlib.Core.List.{List, [], _∷_}
 use Rattle.common.specs.Refusals.{Condition, _gives_}
-use Rattle.cpu.specs.State.{withStatus, withWritten}
+use Rattle.registers.specs.State.{withStatus, withWritten}
 use Rattle.slices.specs.Slices.{partOf}
 use Rattle.supervisor.specs.Location.{outputLocation}
 use Rattle.supervisor.specs.Resuming.{resumedStatus}
 use Rattle.supervisor.specs.System.{Patch, patch}
 use Rattle.table.specs.Table.{slotWithState}
-use Rattle.cpu.specs.declared.state.State.{State}
+use Rattle.registers.specs.declared.state.State.{State}
 use Rattle.table.specs.declared.table.Slot.{Slot}
 
 -- the buffer is too short for what was written

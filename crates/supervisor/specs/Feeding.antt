@@ -5,12 +5,12 @@ use lib.ListN.{length}
 use mathlib.Core.Bool.{_||_}
 use mathlib.Core.List.{List, [], _∷_}
 use Rattle.common.specs.Refusals.{Condition, _gives_}
-use Rattle.cpu.specs.State.{withFilled, withRead, withStatus}
+use Rattle.registers.specs.State.{withFilled, withRead, withStatus}
 use Rattle.supervisor.specs.Location.{inputLocation}
 use Rattle.supervisor.specs.Resuming.{resumedStatus}
 use Rattle.supervisor.specs.System.{Patch, patch}
 use Rattle.table.specs.Table.{slotWithState}
-use Rattle.cpu.specs.declared.state.State.{State}
+use Rattle.registers.specs.declared.state.State.{State}
 use Rattle.table.specs.declared.table.Slot.{Slot}
 
 -- unread input remains; no bytes, or more than the capacity

@@ -9,7 +9,7 @@ use native.Mathlib.Omega.{arith}
 use lib.ListN.{length, getD}
 use Rattle.common.specs.declared.places.Location.{Location}
 use Rattle.cpu.specs.Machine.{Machine}
-use Rattle.cpu.specs.declared.state.State.{State}
+use Rattle.registers.specs.declared.state.State.{State}
 use Rattle.slices.specs.SliceLaws.{copied-length, byte-before-copy, byte-after-copy}
 use Rattle.slices.specs.Slices.{copied}
 use Rattle.table.specs.TableConditionLaws.{HoldsPattern}

@@ -11,7 +11,7 @@ use Rattle.common.specs.Layout.{layoutSize}
 use Rattle.common.specs.declared.layout.Layout.{Layout}
 use Rattle.cpu.specs.Machine.{Machine, machineOf}
 use Rattle.cpu.specs.MachineLaws.{MachineSound}
-use Rattle.cpu.specs.declared.state.State.{State}
+use Rattle.registers.specs.declared.state.State.{State}
 use Rattle.slices.specs.SliceLaws.{part-length, copied-inside, part-before-copy, part-after-copy}
 use Rattle.slices.specs.Slices.{partOf, copied}
 use Rattle.supervisor.specs.Running.{machineBytes}

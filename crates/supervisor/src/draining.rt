@@ -2,7 +2,7 @@
 use crate::conditions::system_loaded_slot_refusal;
 use crate::location::output_location;
 use crate::resuming::resumed_status;
-use cpu::State;
+use registers::State;
 use table::Slot;
 use table::Table;
 ghost use mathlib.Core.Path.{_≡_};

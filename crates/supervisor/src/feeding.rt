@@ -2,7 +2,7 @@
 use crate::conditions::system_loaded_slot_refusal;
 use crate::location::input_location;
 use crate::resuming::resumed_status;
-use cpu::State;
+use registers::State;
 use table::Answer;
 use table::Slot;
 use table::Table;

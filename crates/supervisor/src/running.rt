@@ -11,7 +11,7 @@ ghost use Rattle.supervisor.specs.Running.{machineBytes, afterQuantum, a
 ghost use Rattle.table.specs.Table.{partitionEnd};
 ghost use Rattle.table.specs.Sound.{tableSound};
 use crate::conditions::system_refusal;
-use cpu::State;
+use registers::State;
 use table::Answer;
 use table::Slot;
 use table::Table;

@@ -7,12 +7,12 @@ use mathlib.Core.List.{List, [], _∷_}
 use Rattle.common.specs.Layout.{layoutSound}
 use Rattle.common.specs.Ranges.{isOneTo}
 use Rattle.common.specs.Tests.{all, allBelow}
-use Rattle.cpu.specs.Cpu.{storedPsu}
-use Rattle.cpu.specs.Result.{lastStatus}
+use Rattle.registers.specs.Cpu.{storedPsu}
+use Rattle.registers.specs.State.{lastStatus}
 use Rattle.table.specs.FreeBytes.{isCounted}
 use Rattle.table.specs.Table.{partitionEnd, slotAt}
 use Rattle.common.specs.declared.layout.Layout.{Layout}
-use Rattle.cpu.specs.declared.state.State.{State}
+use Rattle.registers.specs.declared.state.State.{State}
 use Rattle.table.specs.declared.table.Partition.{Partition}
 use Rattle.table.specs.declared.table.Slot.{Slot}
 use Rattle.table.specs.declared.table.Table.{Table}

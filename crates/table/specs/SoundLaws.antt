@@ -15,9 +15,9 @@ use Rattle.common.specs.LayoutLaws.{LayoutSound, layout-fact, layout-test}
 use Rattle.common.specs.Layout.{layoutSize}
 use Rattle.common.specs.TestLaws.{and-fact, and-test, or-fact, or-left, or-right, when-fact, when-test, OneTo, one-to-fact, one-to-test, all-fact, all-test, below-fact, below-test}
 use Rattle.common.specs.declared.layout.Layout.{Layout}
-use Rattle.cpu.specs.Result.{lastStatus}
-use Rattle.cpu.specs.Cpu.{storedPsu}
-use Rattle.cpu.specs.declared.state.State.{State}
+use Rattle.registers.specs.State.{lastStatus}
+use Rattle.registers.specs.Cpu.{storedPsu}
+use Rattle.registers.specs.declared.state.State.{State}
 use Rattle.table.specs.Table.{noSlot, slotAt, withFreeBytes, withSlot, isEmpty, partitionEnd}
 use Rattle.table.specs.Extents.{eachWithout, extentsTotal, withoutSlotsBelow, freeExtents, freeTotal, widestOf, widestExtent}
 use Rattle.table.specs.FreeBytes.{isCounted, counted}

@@ -9,9 +9,9 @@ use Rattle.common.specs.Choice.{if_then_else_}
 use Rattle.common.specs.Layout.{layoutSize}
 use Rattle.common.specs.Ranges.{isOneTo}
 use Rattle.common.specs.Refusals.{_gives_, refusalBy}
-use Rattle.cpu.specs.Cpu.{freshCpu}
-use Rattle.cpu.specs.State.{emptyState}
-use Rattle.cpu.specs.declared.state.State.{State}
+use Rattle.registers.specs.Cpu.{freshCpu}
+use Rattle.registers.specs.State.{emptyState}
+use Rattle.registers.specs.declared.state.State.{State}
 use Rattle.table.specs.declared.table.Partition.{Partition}
 use Rattle.table.specs.declared.table.Slot.{Slot}
 use Rattle.table.specs.declared.table.Table.{Table}

@@ -1,7 +1,7 @@
 -- Names for lists of definitions, which laws and worked cases open together. Nothing here has to be believed.
 use Rattle.common.specs.Layout.{layoutSound}
 use Rattle.common.specs.Tests.{andAll, allBelow}
-use Rattle.cpu.specs.Cpu.{freshCpu}
+use Rattle.registers.specs.Cpu.{freshCpu}
 use Rattle.table.specs.Extents.{eachWithout, extentBetween, widestOf, withoutPartition, withoutSlotsBelow}
 use Rattle.table.specs.FreeBytes.{isCounted}
 use Rattle.table.specs.Sound.{allFifteenBits, allZero, areApart, isClearOfOthers, partitionSound, slotSound, slotsSound, stateSound, tableSound, isZeroPartition, isZeroState}

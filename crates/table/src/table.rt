@@ -3,8 +3,8 @@ use common::Address;
 use common::Layout;
 use common::Location;
 use common::is_one_to;
-use cpu::Cpu;
-use cpu::State;
+use registers::Cpu;
+use registers::State;
 ghost use mathlib.Core.Path.{_≡_};
 ghost use Rattle.table.specs.Table.{emptyPartition, partitionEnd, emptySlot, emptyTable, newRefusal, newTable};
 

@@ -1,4 +1,4 @@
-use Rattle.cpu.specs.Address.{ifResolved}
+use Rattle.steps.specs.Address.{ifResolved}
 use Rattle.cpu.specs.Branch.{branchIfTakenOf}
 use Rattle.common.specs.Choice.{if_then_else_}
 use mathlib.Core.Path.{_∙_, sym}

@@ -1,4 +1,4 @@
-use Rattle.cpu.specs.Address.{ifResolved, ifFetched}
+use Rattle.steps.specs.Address.{ifResolved, ifFetched}
 use Rattle.cpu.specs.Branch.{indexedBranchOf}
 use mathlib.Core.Path.{_∙_, sym}
 use borrow.Author.Needs.{needs}

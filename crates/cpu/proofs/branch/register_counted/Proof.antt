@@ -1,4 +1,4 @@
-use Rattle.cpu.proofs.ByteLaws.{stepped-down}
+use Rattle.steps.specs.ByteLaws.{stepped-down}
 use Rattle.cpu.specs.Branch.{registerCountedOf}
 use borrow.Author.Needs.{needs}
 use Rattle.cpu.proofs.branch.register_counted.Statement.{statement}

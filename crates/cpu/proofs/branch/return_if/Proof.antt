@@ -17,11 +17,8 @@ return-from-call-requires c κs = search needs
 running-requires : tie.Need-running-requires
 running-requires c κs = search needs
 
-advanced-requires : tie.Need-advanced-requires
-advanced-requires c κs = search needs
-
-running-requires-2 : tie.Need-running-requires-2
-running-requires-2 c κs = search needs
+running-after-requires : tie.Need-running-after-requires
+running-after-requires c κs = search needs
 
 returns : tie.Need-returns
 unfolding returnIfOf if_then_else_
@@ -37,10 +34,9 @@ returns-2 : tie.Need-returns-2
 unfolding returnIfOf if_then_else_
 returns-2 c =
     rw (
-      ← c .before .before .before .before .psl .ensures,
-      sym (c .before .before .before .condition-met .ensures) ∙ c .before .before .if1 .left,
-      ← c .before .advanced .ensures,
-      ← c .running2 .ensures,
+      ← c .before .before .before .psl .ensures,
+      sym (c .before .before .condition-met .ensures) ∙ c .before .if1 .left,
+      ← c .running-after .ensures,
     )
 
 pub return-if-spec : {M : Type 1} → statement M
@@ -51,7 +47,6 @@ return-if-spec =
     condition-met-requires
     return-from-call-requires
     running-requires
-    advanced-requires
-    running-requires-2
+    running-after-requires
     returns
     returns-2)

@@ -1,4 +1,11 @@
-use Rattle.cpu.specs.PackedCpu.{portsOfView}
+use mathlib.Core.Path.{_∙_, ap}
+use Prim.Native.Nat.{ℕ}
+use Rattle.alu.specs.Alu.{loadResultOf}
+use Rattle.registers.specs.AluResults.{withAluResult}
+use Rattle.registers.specs.Cpu.{pslOf}
+use Rattle.registers.specs.PackedCpu.{cpuOf}
+use Rattle.steps.specs.Result.{registerChangedOf}
+use Rattle.cpu.specs.PortView.{portsOfView}
 use Rattle.cpu.specs.Instruction.{executeOf}
 use borrow.Author.Needs.{needs}
 use Rattle.cpu.proofs.instruction.execute.Statement.{statement}
@@ -34,29 +41,23 @@ enum-told-4 c = search needs
 register-requires : tie.Need-register-requires
 register-requires c κs = search needs
 
-psl-requires : tie.Need-psl-requires
-psl-requires c κs = search needs
+load-requires : tie.Need-load-requires
+load-requires c κs = search needs
 
-load-result-requires : tie.Need-load-result-requires
-load-result-requires c κs = search needs
-
-register-changed-requires : tie.Need-register-changed-requires
-register-changed-requires c κs = search needs
+running-after-requires : tie.Need-running-after-requires
+running-after-requires c κs = search needs
 
 enum-told-5 : tie.Need-enum-told-5
 enum-told-5 c = search needs
 
-advanced-requires : tie.Need-advanced-requires
-advanced-requires c κs = search needs
-
-running-requires : tie.Need-running-requires
-running-requires c κs = search needs
+running-after-requires-2 : tie.Need-running-after-requires-2
+running-after-requires-2 c κs = search needs
 
 enum-told-6 : tie.Need-enum-told-6
 enum-told-6 c = search needs
 
-advanced-requires-2 : tie.Need-advanced-requires-2
-advanced-requires-2 c κs = search needs
+advanced-requires : tie.Need-advanced-requires
+advanced-requires c κs = search needs
 
 step-result-requires : tie.Need-step-result-requires
 step-result-requires c κs = search needs
@@ -67,26 +68,23 @@ enum-told-7 c = search needs
 psu-with-sense-requires : tie.Need-psu-with-sense-requires
 psu-with-sense-requires c κs = search needs
 
-psl-requires-2 : tie.Need-psl-requires-2
-psl-requires-2 c κs = search needs
+load-requires-2 : tie.Need-load-requires-2
+load-requires-2 c κs = search needs
 
-load-result-requires-2 : tie.Need-load-result-requires-2
-load-result-requires-2 c κs = search needs
-
-register-changed-requires-2 : tie.Need-register-changed-requires-2
-register-changed-requires-2 c κs = search needs
+running-after-requires-3 : tie.Need-running-after-requires-3
+running-after-requires-3 c κs = search needs
 
 enum-told-8 : tie.Need-enum-told-8
 enum-told-8 c = search needs
 
-psl-requires-3 : tie.Need-psl-requires-3
-psl-requires-3 c κs = search needs
+psl-requires : tie.Need-psl-requires
+psl-requires c κs = search needs
 
-load-result-requires-3 : tie.Need-load-result-requires-3
-load-result-requires-3 c κs = search needs
+load-requires-3 : tie.Need-load-requires-3
+load-requires-3 c κs = search needs
 
-register-changed-requires-3 : tie.Need-register-changed-requires-3
-register-changed-requires-3 c κs = search needs
+running-after-requires-4 : tie.Need-running-after-requires-4
+running-after-requires-4 c κs = search needs
 
 enum-told-9 : tie.Need-enum-told-9
 enum-told-9 c = search needs
@@ -100,11 +98,8 @@ stored-psu-requires c κs = search needs
 with-psu-requires : tie.Need-with-psu-requires
 with-psu-requires c κs = search needs
 
-advanced-requires-3 : tie.Need-advanced-requires-3
-advanced-requires-3 c κs = search needs
-
-running-requires-2 : tie.Need-running-requires-2
-running-requires-2 c κs = search needs
+running-after-requires-5 : tie.Need-running-after-requires-5
+running-after-requires-5 c κs = search needs
 
 enum-told-10 : tie.Need-enum-told-10
 enum-told-10 c = search needs
@@ -115,11 +110,8 @@ register-requires-3 c κs = search needs
 with-psl-requires : tie.Need-with-psl-requires
 with-psl-requires c κs = search needs
 
-advanced-requires-4 : tie.Need-advanced-requires-4
-advanced-requires-4 c κs = search needs
-
-running-requires-3 : tie.Need-running-requires-3
-running-requires-3 c κs = search needs
+running-after-requires-6 : tie.Need-running-after-requires-6
+running-after-requires-6 c κs = search needs
 
 enum-told-11 : tie.Need-enum-told-11
 enum-told-11 c = search needs
@@ -157,8 +149,8 @@ tested-requires c κs = search needs
 enum-told-16 : tie.Need-enum-told-16
 enum-told-16 c = search needs
 
-psl-requires-4 : tie.Need-psl-requires-4
-psl-requires-4 c κs = search needs
+psl-requires-2 : tie.Need-psl-requires-2
+psl-requires-2 c κs = search needs
 
 tested-requires-2 : tie.Need-tested-requires-2
 tested-requires-2 c κs = search needs
@@ -175,47 +167,29 @@ tested-requires-3 c κs = search needs
 enum-told-18 : tie.Need-enum-told-18
 enum-told-18 c = search needs
 
-register-requires-5 : tie.Need-register-requires-5
-register-requires-5 c κs = search needs
+adjust-requires : tie.Need-adjust-requires
+adjust-requires c κs = search needs
 
-psl-requires-5 : tie.Need-psl-requires-5
-psl-requires-5 c κs = search needs
-
-decimal-adjust-requires : tie.Need-decimal-adjust-requires
-decimal-adjust-requires c κs = search needs
-
-register-changed-requires-4 : tie.Need-register-changed-requires-4
-register-changed-requires-4 c κs = search needs
+running-after-requires-7 : tie.Need-running-after-requires-7
+running-after-requires-7 c κs = search needs
 
 enum-told-19 : tie.Need-enum-told-19
 enum-told-19 c = search needs
 
-register-requires-6 : tie.Need-register-requires-6
-register-requires-6 c κs = search needs
-
-psl-requires-6 : tie.Need-psl-requires-6
-psl-requires-6 c κs = search needs
-
 rotate-right-requires : tie.Need-rotate-right-requires
 rotate-right-requires c κs = search needs
 
-register-changed-requires-5 : tie.Need-register-changed-requires-5
-register-changed-requires-5 c κs = search needs
+running-after-requires-8 : tie.Need-running-after-requires-8
+running-after-requires-8 c κs = search needs
 
 enum-told-20 : tie.Need-enum-told-20
 enum-told-20 c = search needs
 
-register-requires-7 : tie.Need-register-requires-7
-register-requires-7 c κs = search needs
-
-psl-requires-7 : tie.Need-psl-requires-7
-psl-requires-7 c κs = search needs
-
 rotate-left-requires : tie.Need-rotate-left-requires
 rotate-left-requires c κs = search needs
 
-register-changed-requires-6 : tie.Need-register-changed-requires-6
-register-changed-requires-6 c κs = search needs
+running-after-requires-9 : tie.Need-running-after-requires-9
+running-after-requires-9 c κs = search needs
 
 enum-told-21 : tie.Need-enum-told-21
 enum-told-21 c = search needs
@@ -304,23 +278,21 @@ returns-4 c =
     )
 
 returns-5 : tie.Need-returns-5
-unfolding executeOf portsOfView
+unfolding executeOf registerChangedOf portsOfView
 returns-5 c =
     rw (
-      c .before .before .before .before .enum-told4 .given .1,
-      ← c .before .before .before .register .ensures,
-      ← c .before .before .psl .ensures,
-      ← c .before .load-result .ensures .0,
-      ← c .register-changed .ensures,
+      c .before .before .before .enum-told4 .given .1,
+      ← c .before .before .register .ensures,
+      ← c .before .load .ensures,
+      ← c .running-after .ensures,
     )
 
 returns-6 : tie.Need-returns-6
 unfolding executeOf portsOfView
 returns-6 c =
     rw (
-      c .before .before .enum-told5 .given .1,
-      ← c .before .advanced .ensures,
-      ← c .running .ensures,
+      c .before .enum-told5 .given .1,
+      ← c .running-after2 .ensures,
     )
 
 returns-7 : tie.Need-returns-7
@@ -328,52 +300,48 @@ unfolding executeOf portsOfView
 returns-7 c =
     rw (
       c .before .before .enum-told6 .given .1,
-      ← c .before .advanced2 .ensures,
+      ← c .before .advanced .ensures,
       ← c .step-result .ensures,
     )
 
 returns-8 : tie.Need-returns-8
-unfolding executeOf portsOfView
+unfolding executeOf registerChangedOf portsOfView
 returns-8 c =
     rw (
-      c .before .before .before .before .enum-told7 .given .1,
-      ← c .before .before .before .psu-with-sense .ensures,
-      ← c .before .before .psl2 .ensures,
-      ← c .before .load-result2 .ensures .0,
-      ← c .register-changed2 .ensures,
+      c .before .before .before .enum-told7 .given .1,
+      ← c .before .before .psu-with-sense .ensures,
+      ← c .before .load2 .ensures,
+      ← c .running-after3 .ensures,
     )
 
 returns-9 : tie.Need-returns-9
-unfolding executeOf portsOfView
+unfolding executeOf registerChangedOf portsOfView
 returns-9 c =
     rw (
       c .before .before .before .enum-told8 .given .1,
-      ← c .before .before .psl3 .ensures,
-      ← c .before .load-result3 .ensures .0,
-      ← c .register-changed3 .ensures,
+      ← c .before .load3 .ensures ∙ ap (λ (v : ℕ). withAluResult (cpuOf (c .before .before .before .before .before .before .before .args .m)) 0 (loadResultOf (pslOf (cpuOf (c .before .before .before .before .before .before .before .args .m))) v)) (c .before .before .psl .ensures),
+      ← c .running-after4 .ensures,
     )
 
 returns-10 : tie.Need-returns-10
 unfolding executeOf portsOfView
 returns-10 c =
     rw (
-      c .before .before .before .before .before .enum-told9 .given .1,
-      ← c .before .before .before .before .register2 .ensures,
-      ← c .before .before .before .stored-psu .ensures,
-      ← c .before .before .with-psu .ensures,
-      ← c .before .advanced3 .ensures,
-      ← c .running2 .ensures,
+      c .before .before .before .before .enum-told9 .given .1,
+      ← c .before .before .before .register2 .ensures,
+      ← c .before .before .stored-psu .ensures,
+      ← c .before .with-psu .ensures,
+      ← c .running-after5 .ensures,
     )
 
 returns-11 : tie.Need-returns-11
 unfolding executeOf portsOfView
 returns-11 c =
     rw (
-      c .before .before .before .before .enum-told10 .given .1,
-      ← c .before .before .before .register3 .ensures,
-      ← c .before .before .with-psl .ensures,
-      ← c .before .advanced4 .ensures,
-      ← c .running3 .ensures,
+      c .before .before .before .enum-told10 .given .1,
+      ← c .before .before .register3 .ensures,
+      ← c .before .with-psl .ensures,
+      ← c .running-after6 .ensures,
     )
 
 returns-12 : tie.Need-returns-12
@@ -422,7 +390,7 @@ unfolding executeOf portsOfView
 returns-17 c =
     rw (
       c .before .before .enum-told16 .given .1,
-      ← c .before .psl4 .ensures,
+      ← c .before .psl2 .ensures,
       ← c .tested2 .ensures,
     )
 
@@ -436,36 +404,30 @@ returns-18 c =
     )
 
 returns-19 : tie.Need-returns-19
-unfolding executeOf portsOfView
+unfolding executeOf registerChangedOf portsOfView
 returns-19 c =
     rw (
-      c .before .before .before .before .enum-told18 .given .1,
-      ← c .before .before .before .register5 .ensures,
-      ← c .before .before .psl5 .ensures,
-      ← c .before .decimal-adjust .ensures .0,
-      ← c .register-changed4 .ensures,
+      c .before .before .enum-told18 .given .1,
+      ← c .before .adjust .ensures,
+      ← c .running-after7 .ensures,
     )
 
 returns-20 : tie.Need-returns-20
-unfolding executeOf portsOfView
+unfolding executeOf registerChangedOf portsOfView
 returns-20 c =
     rw (
-      c .before .before .before .before .enum-told19 .given .1,
-      ← c .before .before .before .register6 .ensures,
-      ← c .before .before .psl6 .ensures,
-      ← c .before .rotate-right .ensures .0,
-      ← c .register-changed5 .ensures,
+      c .before .before .enum-told19 .given .1,
+      ← c .before .rotate-right .ensures,
+      ← c .running-after8 .ensures,
     )
 
 returns-21 : tie.Need-returns-21
-unfolding executeOf portsOfView
+unfolding executeOf registerChangedOf portsOfView
 returns-21 c =
     rw (
-      c .before .before .before .before .enum-told20 .given .1,
-      ← c .before .before .before .register7 .ensures,
-      ← c .before .before .psl7 .ensures,
-      ← c .before .rotate-left .ensures .0,
-      ← c .register-changed6 .ensures,
+      c .before .before .enum-told20 .given .1,
+      ← c .before .rotate-left .ensures,
+      ← c .running-after9 .ensures,
     )
 
 returns-22 : tie.Need-returns-22
@@ -554,35 +516,30 @@ execute-spec =
     operate-on-operand-requires
     enum-told-4
     register-requires
-    psl-requires
-    load-result-requires
-    register-changed-requires
+    load-requires
+    running-after-requires
     enum-told-5
-    advanced-requires
-    running-requires
+    running-after-requires-2
     enum-told-6
-    advanced-requires-2
+    advanced-requires
     step-result-requires
     enum-told-7
     psu-with-sense-requires
-    psl-requires-2
-    load-result-requires-2
-    register-changed-requires-2
+    load-requires-2
+    running-after-requires-3
     enum-told-8
-    psl-requires-3
-    load-result-requires-3
-    register-changed-requires-3
+    psl-requires
+    load-requires-3
+    running-after-requires-4
     enum-told-9
     register-requires-2
     stored-psu-requires
     with-psu-requires
-    advanced-requires-3
-    running-requires-2
+    running-after-requires-5
     enum-told-10
     register-requires-3
     with-psl-requires
-    advanced-requires-4
-    running-requires-3
+    running-after-requires-6
     enum-told-11
     clear-psu-requires
     enum-told-12
@@ -595,26 +552,20 @@ execute-spec =
     psu-with-sense-requires-2
     tested-requires
     enum-told-16
-    psl-requires-4
+    psl-requires-2
     tested-requires-2
     enum-told-17
     register-requires-4
     tested-requires-3
     enum-told-18
-    register-requires-5
-    psl-requires-5
-    decimal-adjust-requires
-    register-changed-requires-4
+    adjust-requires
+    running-after-requires-7
     enum-told-19
-    register-requires-6
-    psl-requires-6
     rotate-right-requires
-    register-changed-requires-5
+    running-after-requires-8
     enum-told-20
-    register-requires-7
-    psl-requires-7
     rotate-left-requires
-    register-changed-requires-6
+    running-after-requires-9
     enum-told-21
     read-data-requires
     enum-told-22

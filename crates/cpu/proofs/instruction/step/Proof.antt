@@ -1,4 +1,4 @@
-use Rattle.cpu.specs.Address.{ifFetched}
+use Rattle.steps.specs.Address.{ifFetched}
 use Rattle.cpu.specs.Instruction.{instructionStep}
 use mathlib.Core.Path.{_∙_, sym}
 use borrow.Author.Needs.{needs}

@@ -1,8 +1,8 @@
 use Prim.Native.Nat.{_+_, _-_, _<_, _≤_, ℕ}
 use Rattle.cpu.proofs.PartitionLaws.{beyond-law, bounds-end-law, iteration-steps, bounds-inside, positions-law, status-at, machine-by-bounds-law}
-use Rattle.cpu.specs.PackedCpu.{cpuOf}
+use Rattle.registers.specs.PackedCpu.{cpuOf}
 use Rattle.cpu.specs.Machine.{Machine, machineOf, machineStep}
-use Rattle.cpu.specs.State.{withCpu, withStatus, withRead, withWritten}
+use Rattle.registers.specs.State.{withCpu, withStatus, withRead, withWritten}
 use Rattle.common.specs.Repetition.{times}
 use Rattle.cpu.specs.Partition.{BoundsHold, machineByBounds, partitionAfter}
 use Rattle.cpu.specs.RestLaws.{times-rests}
@@ -11,9 +11,9 @@ use lib.ListN.{drop, length}
 use mathlib.Core.Logic.{⊎-elim}
 use mathlib.Core.Path.{_∙_, _≡_, ap, refl, subst, sym}
 use native.Mathlib.Omega.{arith}
-use Rattle.cpu.specs.declared.state.State.{State}
+use Rattle.registers.specs.declared.state.State.{State}
 use Rattle.cpu.specs.declared.partition.Positions.{Positions}
-use Rattle.cpu.specs.declared.cpu.Cpu.{Cpu}
+use Rattle.registers.specs.declared.cpu.Cpu.{Cpu}
 use borrow.Author.Needs.{needs}
 use Rattle.cpu.proofs.machine.run.Statement.{statement}
 use Rattle.cpu.proofs.machine.run.Tie as tie

@@ -1,5 +1,5 @@
 use Rattle.common.specs.Choice.{if_then_else_}
-use Rattle.cpu.specs.PackedCpu.{portsOfView}
+use Rattle.cpu.specs.PortView.{portsOfView}
 use Rattle.cpu.specs.Port.{readDataOf}
 use borrow.Author.Needs.{needs}
 use Rattle.cpu.proofs.port.read_data.Statement.{statement}
@@ -8,14 +8,8 @@ use Rattle.cpu.proofs.port.read_data.Tie as tie
 byte-or-zero-requires : tie.Need-byte-or-zero-requires
 byte-or-zero-requires c κs = search needs
 
-psl-requires : tie.Need-psl-requires
-psl-requires c κs = search needs
-
-load-result-requires : tie.Need-load-result-requires
-load-result-requires c κs = search needs
-
-with-alu-result-requires : tie.Need-with-alu-result-requires
-with-alu-result-requires c κs = search needs
+load-requires : tie.Need-load-requires
+load-requires c κs = search needs
 
 advanced-requires : tie.Need-advanced-requires
 advanced-requires c κs = search needs
@@ -30,11 +24,9 @@ returns : tie.Need-returns
 unfolding readDataOf portsOfView if_then_else_
 returns c =
     rw (
-      c .before .before .before .before .before .before .if1 .taken,
-      ← c .before .before .before .before .before .byte-or-zero .ensures,
-      ← c .before .before .before .before .psl .ensures,
-      ← c .before .before .before .load-result .ensures .0,
-      ← c .before .before .with-alu-result .ensures,
+      c .before .before .before .before .if1 .taken,
+      ← c .before .before .before .byte-or-zero .ensures,
+      ← c .before .before .load .ensures,
       ← c .before .advanced .ensures,
       ← c .step-result .ensures,
     )
@@ -52,9 +44,7 @@ read-data-spec =
     tie.close
     (tie.spec
     byte-or-zero-requires
-    psl-requires
-    load-result-requires
-    with-alu-result-requires
+    load-requires
     advanced-requires
     step-result-requires
     stopped-requires

@@ -1,7 +1,7 @@
 use Prim.Native.Nat.{_%_}
-use Rattle.cpu.proofs.PackedCpuLaws.{put-byte-out}
+use Rattle.steps.specs.PackedStepLaws.{put-byte-out}
 use Rattle.common.specs.Choice.{if_then_else_}
-use Rattle.cpu.specs.PackedCpu.{portsOfView}
+use Rattle.cpu.specs.PortView.{portsOfView}
 use Rattle.cpu.specs.Port.{writeDataOf}
 use mathlib.Core.Path.{_≡_}
 use native.Mathlib.Omega.{arith}

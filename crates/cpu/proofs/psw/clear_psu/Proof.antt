@@ -1,4 +1,4 @@
-use Rattle.cpu.specs.Address.{ifFetched}
+use Rattle.steps.specs.Address.{ifFetched}
 use Rattle.cpu.specs.Psw.{maskedOf}
 use mathlib.Core.Path.{_∙_, sym}
 use borrow.Author.Needs.{needs}
@@ -41,23 +41,19 @@ stored-psu-requires c κs = search needs
 with-psu-requires : tie.Need-with-psu-requires
 with-psu-requires c κs = search needs
 
-advanced-requires : tie.Need-advanced-requires
-advanced-requires c κs = search needs
-
-running-requires : tie.Need-running-requires
-running-requires c κs = search needs
+running-after-requires : tie.Need-running-after-requires
+running-after-requires c κs = search needs
 
 returns-2 : tie.Need-returns-2
 unfolding maskedOf ifFetched
 returns-2 c =
     rw (
-      ← c .before .before .before .before .before .before .before .before .before .address-after .ensures,
-      sym (c .before .before .before .before .before .before .before .before .fetch .ensures) ∙ c .before .before .before .before .before .before .mask .given .1,
-      ← c .before .before .before .before .psu .ensures,
-      ← c .before .before .before .stored-psu .ensures,
-      ← c .before .before .with-psu .ensures,
-      ← c .before .advanced .ensures,
-      ← c .running .ensures,
+      ← c .before .before .before .before .before .before .before .before .address-after .ensures,
+      sym (c .before .before .before .before .before .before .before .fetch .ensures) ∙ c .before .before .before .before .before .mask .given .1,
+      ← c .before .before .before .psu .ensures,
+      ← c .before .before .stored-psu .ensures,
+      ← c .before .with-psu .ensures,
+      ← c .running-after .ensures,
     )
 
 pub clear-psu-spec : {M : Type 1} → statement M
@@ -74,6 +70,5 @@ clear-psu-spec =
     sub-stored-psu
     stored-psu-requires
     with-psu-requires
-    advanced-requires
-    running-requires
+    running-after-requires
     returns-2)

@@ -1,4 +1,4 @@
-use Rattle.cpu.specs.Address.{ifFetched}
+use Rattle.steps.specs.Address.{ifFetched}
 use Rattle.cpu.specs.Psw.{maskedOf}
 use mathlib.Core.Path.{_∙_, sym}
 use borrow.Author.Needs.{needs}
@@ -35,22 +35,18 @@ psl-requires c κs = search needs
 with-psl-requires : tie.Need-with-psl-requires
 with-psl-requires c κs = search needs
 
-advanced-requires : tie.Need-advanced-requires
-advanced-requires c κs = search needs
-
-running-requires : tie.Need-running-requires
-running-requires c κs = search needs
+running-after-requires : tie.Need-running-after-requires
+running-after-requires c κs = search needs
 
 returns-2 : tie.Need-returns-2
 unfolding maskedOf ifFetched
 returns-2 c =
     rw (
-      ← c .before .before .before .before .before .before .before .before .address-after .ensures,
-      sym (c .before .before .before .before .before .before .before .fetch .ensures) ∙ c .before .before .before .before .before .mask .given .1,
-      ← c .before .before .before .psl .ensures,
-      ← c .before .before .with-psl .ensures,
-      ← c .before .advanced .ensures,
-      ← c .running .ensures,
+      ← c .before .before .before .before .before .before .before .address-after .ensures,
+      sym (c .before .before .before .before .before .before .fetch .ensures) ∙ c .before .before .before .before .mask .given .1,
+      ← c .before .before .psl .ensures,
+      ← c .before .with-psl .ensures,
+      ← c .running-after .ensures,
     )
 
 pub preset-psl-spec : {M : Type 1} → statement M
@@ -65,6 +61,5 @@ preset-psl-spec =
     returns
     psl-requires
     with-psl-requires
-    advanced-requires
-    running-requires
+    running-after-requires
     returns-2)

@@ -1,5 +1,5 @@
 use Rattle.common.specs.Choice.{if_then_else_}
-use Rattle.cpu.specs.Psw.{psuWithSense}
+use Rattle.registers.specs.Cpu.{psuWithSense}
 use borrow.Author.Needs.{needs}
 use Rattle.cpu.proofs.psw.psu_with_sense.Statement.{statement}
 use Rattle.cpu.proofs.psw.psu_with_sense.Tie as tie

@@ -1,4 +1,4 @@
-use Rattle.cpu.specs.Address.{ifFetched}
+use Rattle.steps.specs.Address.{ifFetched}
 use Rattle.cpu.specs.Psw.{maskedOf, testedOf}
 use mathlib.Core.Path.{_∙_, sym}
 use borrow.Author.Needs.{needs}
@@ -29,32 +29,20 @@ returns c =
       ← c .stopped .ensures,
     )
 
-psl-requires : tie.Need-psl-requires
-psl-requires c κs = search needs
+test-requires : tie.Need-test-requires
+test-requires c κs = search needs
 
-test-psl-requires : tie.Need-test-psl-requires
-test-psl-requires c κs = search needs
-
-with-psl-same-bank-requires : tie.Need-with-psl-same-bank-requires
-with-psl-same-bank-requires c κs = search needs
-
-advanced-requires : tie.Need-advanced-requires
-advanced-requires c κs = search needs
-
-running-requires : tie.Need-running-requires
-running-requires c κs = search needs
+running-after-requires : tie.Need-running-after-requires
+running-after-requires c κs = search needs
 
 returns-2 : tie.Need-returns-2
 unfolding testedOf maskedOf ifFetched
 returns-2 c =
     rw (
-      ← c .before .before .before .before .before .before .before .before .before .address-after .ensures,
-      sym (c .before .before .before .before .before .before .before .before .fetch .ensures) ∙ c .before .before .before .before .before .before .mask .given .1,
-      ← c .before .before .before .before .psl .ensures,
-      ← c .before .before .before .test-psl .ensures .0,
-      ← c .before .before .with-psl-same-bank .ensures,
-      ← c .before .advanced .ensures,
-      ← c .running .ensures,
+      ← c .before .before .before .before .before .before .address-after .ensures,
+      sym (c .before .before .before .before .before .fetch .ensures) ∙ c .before .before .before .mask .given .1,
+      ← c .before .test .ensures,
+      ← c .running-after .ensures,
     )
 
 pub tested-spec : {M : Type 1} → statement M
@@ -67,9 +55,6 @@ tested-spec =
     enum-told
     stopped-requires
     returns
-    psl-requires
-    test-psl-requires
-    with-psl-same-bank-requires
-    advanced-requires
-    running-requires
+    test-requires
+    running-after-requires
     returns-2)

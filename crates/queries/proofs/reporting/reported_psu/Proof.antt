@@ -2,8 +2,7 @@
 use native.Mathlib.Omega.{arith}
 use borrow.Author.Tests.{lt-ltb, le-ltb}
 use Rattle.common.specs.Choice.{if_then_else_}
-use Rattle.cpu.specs.Cpu.{psuOf}
-use Rattle.cpu.specs.Psw.{psuWithSense}
+use Rattle.registers.specs.Cpu.{psuOf, psuWithSense}
 use borrow.Author.Needs.{needs}
 use Rattle.queries.proofs.reporting.reported_psu.Statement.{statement}
 use Rattle.queries.proofs.reporting.reported_psu.Tie as tie

@@ -1,0 +1,3 @@
+-- Laws that only proofs need.
+pub mod WordLaws
+pub mod PackedCpuLaws

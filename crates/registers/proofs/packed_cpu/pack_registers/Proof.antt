@@ -1,0 +1,61 @@
+use Rattle.registers.proofs.PackedCpuLaws.{register-bytes-packed}
+use borrow.Author.Needs.{needs}
+use Rattle.registers.proofs.packed_cpu.pack_registers.Statement.{statement}
+use Rattle.registers.proofs.packed_cpu.pack_registers.Tie as tie
+
+mul-result : tie.Need-mul-result
+mul-result c = search needs
+
+add-result : tie.Need-add-result
+add-result c = search needs
+
+mul-result-2 : tie.Need-mul-result-2
+mul-result-2 c = search needs
+
+add-result-2 : tie.Need-add-result-2
+add-result-2 c = search needs
+
+mul-result-3 : tie.Need-mul-result-3
+mul-result-3 c = search needs
+
+add-result-3 : tie.Need-add-result-3
+add-result-3 c = search needs
+
+mul-result-4 : tie.Need-mul-result-4
+mul-result-4 c = search needs
+
+add-result-4 : tie.Need-add-result-4
+add-result-4 c = search needs
+
+mul-result-5 : tie.Need-mul-result-5
+mul-result-5 c = search needs
+
+add-result-5 : tie.Need-add-result-5
+add-result-5 c = search needs
+
+mul-result-6 : tie.Need-mul-result-6
+mul-result-6 c = search needs
+
+add-result-6 : tie.Need-add-result-6
+add-result-6 c = search needs
+
+returns : tie.Need-returns
+returns c = register-bytes-packed _ _ _ _ _ _ _ (c .fits .a .fits) (c .fits .b .fits) (c .fits .c .fits) (c .fits .d .fits) (c .fits .e .fits) (c .fits .f .fits) (c .fits .g .fits)
+
+pub pack-registers-spec : {M : Type 1} → statement M
+pack-registers-spec =
+    tie.close
+    (tie.spec
+    mul-result
+    add-result
+    mul-result-2
+    add-result-2
+    mul-result-3
+    add-result-3
+    mul-result-4
+    add-result-4
+    mul-result-5
+    add-result-5
+    mul-result-6
+    add-result-6
+    returns)
