@@ -22,7 +22,7 @@ use Rattle.queries.specs.declared.fit_query.FitAnswer.{FitAnswer}
 use Rattle.queries.specs.declared.reported.Report.{Report}
 use Rattle.table.specs.declared.table.Table.{Table}
 use Rattle.host.specs.HostCalls.{answerOf, lentSystem, tableBytesAfter, bufferOutcome, hostNew, hostBuffers, hostOutcome, hostAfterCall, hostOutcomeOf, hostDrainedBuffer, reportBytes, reportLength, hostReportRefusal, hostReport, bufferOutcomeOf, hostBacklog, answerOfFit, hostFit}
-use Rattle.host.specs.TableEncoding.{tableFromBytes, tableLength}
+use Rattle.encoding.specs.TableEncoding.{tableFromBytes, tableLength}
 use Rattle.common.specs.ConditionDefinitions.{condition-definitions}
 
 -- ---- calls with a table and a memory

@@ -23,7 +23,7 @@ use Rattle.table.specs.SoundLaws.{counted-same, table-fact}
 use Rattle.table.specs.declared.table.Answer.{Answer}
 use Rattle.table.specs.declared.table.Table.{Table}
 use Rattle.host.specs.HostCalls.{bufferOutcome, answerOf}
-use Rattle.host.specs.TableEncoding.{slotLength, tableLength, tableBytes, tableFromBytes}
+use Rattle.encoding.specs.TableEncoding.{slotLength, tableLength, tableBytes, tableFromBytes}
 use Rattle.host.specs.Upgrading.{unlockedSlotLength, lockOffset, withNoLock, unlockedTableLength, unlockedTableFromBytes, lastUnlockedStatus, statusesUpTo, uncountedTableLength, uncountedTableFromBytes, heldTable, heldTableSound, upgradeOf, hostUpgrade}
 
 -- ---- by the length

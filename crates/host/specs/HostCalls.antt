@@ -16,7 +16,7 @@ use Rattle.queries.specs.declared.reported.Report.{Report}
 use Rattle.table.specs.declared.table.Table.{Table}
 use Rattle.slices.specs.Numbers.{u16Bytes}
 use Rattle.slices.specs.Slices.{concat}
-use Rattle.host.specs.TableEncoding.{tableFromBytes, tableBytes, tableLength}
+use Rattle.encoding.specs.TableEncoding.{tableFromBytes, tableBytes, tableLength}
 
 -- an answer: the refusal, 0 for none, and how many bytes were handed over, 0 where none are
 abbrev pub answerOf : ℕ → ℕ → ℕ

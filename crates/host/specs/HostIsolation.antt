@@ -15,7 +15,7 @@ use Rattle.supervisor.specs.LockKept.{LockKept}
 use Rattle.supervisor.specs.System.{slotOf, machineIn}
 use Rattle.table.specs.Table.{isEmpty}
 use Rattle.host.specs.HostCalls.{HostBuffers, hostBuffers, systemOf, hostAfterCall}
-use Rattle.host.specs.TableEncoding.{tableLength}
+use Rattle.encoding.specs.TableEncoding.{tableLength}
 
 -- what a host holds after a call of an entry point that takes the table, or after one byte of the memory is written between two calls. A
 -- query is given the table to read, and no memory. A new table begins another list

@@ -24,9 +24,9 @@ use Rattle.table.specs.declared.table.Slot.{Slot}
 use Rattle.table.specs.declared.table.Table.{Table}
 use Rattle.host.specs.HostCalls.{tableBytesAfter, HostBuffers, systemOf, hostAfterCall}
 use Rattle.host.specs.HostIsolation.{hostAfterEvent, hostAfterEvents, HostIsolation}
-use Rattle.host.specs.TableEncoding.{tableFromBytes, tableBytes, tableLength}
+use Rattle.encoding.specs.TableEncoding.{tableFromBytes, tableBytes, tableLength}
 use Rattle.encoding.specs.StateRoundTripLaws.{StateShaped}
-use Rattle.host.specs.TableRoundTripLaws.{SlotsShaped, TableShaped, counted-shaped, table-decoded, table-length, table-shaped}
+use Rattle.encoding.specs.TableRoundTripLaws.{SlotsShaped, TableShaped, counted-shaped, table-decoded, table-length, table-shaped}
 use Rattle.supervisor.specs.CallDefinitions.{change-definitions}
 
 -- ---- every call keeps the lengths that a table's bytes need

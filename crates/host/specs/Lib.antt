@@ -1,12 +1,10 @@
 -- Definitions that must be believed, in reading order.
-pub mod TableEncoding
 pub mod HostCalls
 pub mod Upgrading
 pub mod PatternFiles
 pub mod BenchRun
 pub mod HostIsolation
 -- Laws that the checker has shown.
-pub mod TableRoundTripLaws
 pub mod PatternFileLaws
 pub mod HostIsolationTheorem
 pub mod UpgradeTheorem

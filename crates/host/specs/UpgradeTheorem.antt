@@ -28,8 +28,8 @@ use Rattle.table.specs.Table.{noSlot, slotAt}
 use Rattle.table.specs.declared.table.Slot.{Slot}
 use Rattle.table.specs.declared.table.Table.{Table}
 use Rattle.host.specs.HostCalls.{BufferOutcome, bufferOutcome, answerOf}
-use Rattle.host.specs.TableEncoding.{slotLength, slotsOffset, tableLength, tableBytes, partitionFromBytes, slotFromBytes, tableFromBytes}
-use Rattle.host.specs.TableRoundTripLaws.{TableShaped, counted-shaped, slots-shaped, table-shaped, table-length, table-decoded, table-encoded}
+use Rattle.encoding.specs.TableEncoding.{slotLength, slotsOffset, tableLength, tableBytes, partitionFromBytes, slotFromBytes, tableFromBytes}
+use Rattle.encoding.specs.TableRoundTripLaws.{TableShaped, counted-shaped, slots-shaped, table-shaped, table-length, table-decoded, table-encoded}
 use Rattle.host.specs.Upgrading.{unlockedSlotLength, lockOffset, withNoLock, unlockedSlotsFromBytes, unlockedTableLength, unlockedTableFromBytes, lastUnlockedStatus, statusesUpTo, uncountedSlotsOffset, uncountedTableLength, uncountedTableFromBytes, heldTable, heldTableSound, upgradeOf, hostUpgrade, Upgraded}
 
 -- ---- what some version's bytes hold

@@ -22,7 +22,7 @@ use Rattle.table.specs.declared.table.Answer.{Answer}
 use Rattle.table.specs.declared.table.Slot.{Slot}
 use Rattle.table.specs.declared.table.Table.{Table}
 use Rattle.host.specs.HostCalls.{BufferOutcome, bufferOutcome, answerOf}
-use Rattle.host.specs.TableEncoding.{slotsOffset, tableLength, tableBytes, slotFromBytes, tableFromBytes}
+use Rattle.encoding.specs.TableEncoding.{slotsOffset, tableLength, tableBytes, slotFromBytes, tableFromBytes}
 
 -- ---- before document 02's U6
 

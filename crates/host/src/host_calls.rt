@@ -4,12 +4,12 @@ ghost use Prim.Native.Nat.{min};
 ghost use lib.ListN.{length};
 ghost use Rattle.supervisor.specs.Calls as calls;
 ghost use Rattle.supervisor.specs.Calls.{drainedCount};
-ghost use Rattle.host.specs.TableEncoding.{tableLength};
+ghost use Rattle.encoding.specs.TableEncoding.{tableLength};
 ghost use Rattle.host.specs.HostCalls.{answerOf, bufferOutcome, tableBytesAfter, hostBuffers, hostOutcome, hostDrainedBuffer, hostNew, hostOutcomeOf, hostReport, hostBacklog, hostFit, lentSystem, reportBytes};
-use crate::table_encoding::TABLE_LENGTH;
-use crate::table_encoding::decode_table;
-use crate::table_encoding::put_table;
 use common::Location;
+use encoding::TABLE_LENGTH;
+use encoding::decode_table;
+use encoding::store_table;
 use queries::Report;
 use table::Table;
 
@@ -29,7 +29,7 @@ fn store_accepted(bytes: &mut [u8], refusal: u8, table: Table)
     ensures { λ _. ⌜ now (bytes .exit) ≡ tableBytesAfter refusal table (now (bytes .entry)) ⌝ }
 {
     if refusal == 0 {
-        put_table(bytes, table);
+        store_table(bytes, table);
     }
 }
 

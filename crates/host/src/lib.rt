@@ -2,7 +2,6 @@
 mod bench_run;
 mod host_calls;
 mod pattern_files;
-mod table_encoding;
 mod upgrading;
 
 pub use bench_run::pf_listing;

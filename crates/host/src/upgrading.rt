@@ -3,16 +3,16 @@ ghost use mathlib.Core.Path.{_≡_};
 ghost use Prim.Native.Nat.{_+_, _*_, _≤_};
 ghost use lib.ListN.{length};
 ghost use Rattle.host.specs.HostCalls.{bufferOutcome};
-ghost use Rattle.host.specs.TableEncoding.{slotFromBytes};
+ghost use Rattle.encoding.specs.TableEncoding.{slotFromBytes};
 ghost use Rattle.host.specs.Upgrading.{unlockedSlotLength, unlockedTableLength, uncountedTableLength, withNoLock, unlockedSlotsFromBytes, unlockedTableFromBytes, uncountedTableFromBytes, statusesUpTo, upgradeOf, hostUpgrade};
 ghost use Rattle.slices.specs.Slices.{partOf};
 use crate::host_calls::answer;
-use crate::table_encoding::SLOT_LENGTH;
-use crate::table_encoding::SLOTS_OFFSET;
-use crate::table_encoding::TABLE_LENGTH;
-use crate::table_encoding::decode_slot;
-use crate::table_encoding::decode_table;
-use crate::table_encoding::put_table;
+use encoding::SLOT_LENGTH;
+use encoding::SLOTS_OFFSET;
+use encoding::TABLE_LENGTH;
+use encoding::decode_slot;
+use encoding::decode_table;
+use encoding::store_table;
 use slices::copy;
 use slices::front;
 use slices::part;
@@ -154,6 +154,6 @@ pub extern "C" fn pf_upgrade(old: &[u8], table: &mut [u8]) -> u32
         return answer(16, 0);
     }
     let new = upgraded.table;
-    put_table(table, new);
+    store_table(table, new);
     answer(0, 0)
 }

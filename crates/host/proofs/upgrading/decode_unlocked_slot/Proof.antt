@@ -4,7 +4,7 @@ use lib.ListN.{length-replicate}
 use mathlib.Core.Path.{ap}
 use Prim.Native.Nat.{ℕ}
 use Rattle.host.proofs.UpgradeLaws.{lock-put}
-use Rattle.host.specs.TableEncoding.{slotLength, slotFromBytes}
+use Rattle.encoding.specs.TableEncoding.{slotLength, slotFromBytes}
 use Rattle.host.specs.Upgrading.{unlockedSlotLength}
 use Rattle.slices.specs.SliceLaws.{part-length}
 use Rattle.slices.specs.Slices.{partOf}

@@ -4,7 +4,7 @@ use lib.ListN.{length-replicate}
 use native.Mathlib.Omega.{arith}
 use Rattle.slices.specs.PieceLaws.{TabulatedTo, tabulated-none, tabulated-next, tabulated-all}
 use Rattle.slices.specs.Slices.{partOf}
-use Rattle.host.specs.TableEncoding.{slotFromBytes}
+use Rattle.encoding.specs.TableEncoding.{slotFromBytes}
 use Rattle.host.specs.Upgrading.{unlockedSlotLength, withNoLock}
 use borrow.Author.Needs.{needs}
 use Rattle.host.proofs.upgrading.decode_unlocked_slots.Statement.{statement}
