@@ -6,7 +6,7 @@ ghost use Rattle.alu.specs.Alu.{condition_code_of, sum_of, carry_of, digit_carry
 use crate::psl;
 
 // The operations on a register and an operand, by the manual's mnemonics. Each comes in four addressing modes.
-#[derive(Drop)]
+#[derive(Clone, Copy)]
 pub enum Operation {
     Lod,
     Eor,
@@ -18,7 +18,7 @@ pub enum Operation {
 }
 
 // A result byte, and the PSL that it leaves. No result changes RS: every function here that makes one says so.
-#[derive(Drop)]
+#[derive(Clone, Copy)]
 pub struct AluResult {
     pub value: u8,
     pub psl: u8,
@@ -36,7 +36,7 @@ fn condition_code(b: u8) -> u8
 }
 
 // A sum of eight bits, and the carry out of bit 7.
-#[derive(Drop)]
+#[derive(Clone, Copy)]
 pub struct Sum {
     pub value: u8,
     pub carry: u8,

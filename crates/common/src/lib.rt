@@ -1,5 +1,7 @@
 // What every layer needs: addresses and locations, how a partition is divided, whether a number is in its range, and the lesser and the
 // greater of two.
+#![tactic(auto)]
+
 mod layout;
 mod places;
 mod ranges;

@@ -11,7 +11,7 @@ use registers::PackedCpu;
 use steps::{Fetched, PackedStep, Resolved};
 
 // What a branch's own bytes say: the indirect bit, the address, and the address of the next instruction.
-#[derive(Drop)]
+#[derive(Clone, Copy)]
 pub enum Target {
     To(u8, Address, Address),
     NoTarget,

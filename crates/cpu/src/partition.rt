@@ -15,7 +15,7 @@ use steps::{PackedEffect, PackedStep};
 // The bounds of a partition's parts. `window_end`, `input_end` and `output_end` are cut at the end of the bytes at hand; `input_start`,
 // `output_start` and `end` are as the sizes have them. `locked` is how many bytes of the window are locked, and `filled` how far the input
 // is filled. The loop of a run knows the layout by these alone.
-#[derive(Drop)]
+#[derive(Clone, Copy)]
 pub struct Bounds {
     pub window_end: usize,
     pub input_start: usize,
@@ -27,7 +27,7 @@ pub struct Bounds {
     pub filled: usize,
 }
 
-#[derive(Drop)]
+#[derive(Clone, Copy)]
 pub struct Positions {
     pub read: usize,
     pub written: usize,

@@ -9,7 +9,7 @@ use registers::PackedCpu;
 use steps::{PackedEffect, PackedStep};
 
 // What the buffers offer to a step: is input unread, where its next byte stands, is the output full.
-#[derive(Drop)]
+#[derive(Clone, Copy)]
 pub struct PortView {
     pub unread: bool,
     pub at: usize,

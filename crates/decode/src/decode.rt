@@ -5,7 +5,7 @@ ghost use Rattle.decode.specs.Decode.{each_of_four, first_and_rest, rest_and_las
 use alu::Operation;
 
 // Where the operand stands: mnemonics that end in Z, I, R and A.
-#[derive(Drop)]
+#[derive(Clone, Copy)]
 pub enum Mode {
     Register,
     Immediate,
@@ -14,21 +14,21 @@ pub enum Mode {
 }
 
 // What is done with it: it is worked on, or a register is stored over it.
-#[derive(Drop)]
+#[derive(Clone, Copy)]
 pub enum Access {
     Read(Operation),
     Write,
 }
 
 // How a branch names its target: relative, with two bytes, or absolute, with three.
-#[derive(Drop)]
+#[derive(Clone, Copy)]
 pub enum BranchMode {
     Relative,
     Absolute,
 }
 
 // The branches on a condition or a register; the last three are calls.
-#[derive(Drop)]
+#[derive(Clone, Copy)]
 pub enum BranchKind {
     Bct,
     Bcf,
@@ -43,7 +43,7 @@ pub enum BranchKind {
 // REDC and WRTC, of one byte, name an unused port; REDE and WRTE, of two, an extended one, which is unused too. Each kind of
 // instruction that needs code of some size stands here once, with what differs inside it: such code then has one caller, and
 // is compiled into it.
-#[derive(Drop)]
+#[derive(Clone, Copy)]
 pub enum Instruction {
     Unknown,
     ControlPort,

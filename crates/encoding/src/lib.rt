@@ -1,4 +1,6 @@
 // A machine's state as bytes, and back; and a table.
+#![tactic(auto)]
+
 mod state_encoding;
 mod table_encoding;
 

@@ -1,4 +1,6 @@
 // Entry points for a host in C: numbers and byte slices, each slice a pointer and then its length.
+#![tactic(auto)]
+
 mod bench_run;
 mod host_calls;
 mod pattern_files;

@@ -5,14 +5,14 @@ ghost use Rattle.lend.specs.Lent.{drain_slot_outcome, drain_slot_of, drain_lent_
 use table::{Slot, Table};
 
 // The refusal, 0 for none, and how many bytes were drained.
-#[derive(Drop)]
+#[derive(Clone, Copy)]
 pub struct LentAnswer {
     pub refusal: u8,
     pub count: usize,
 }
 
 // The same, and the slot: the given one where the call is refused.
-#[derive(Drop)]
+#[derive(Clone, Copy)]
 pub struct SlotAnswer {
     pub drained: LentAnswer,
     pub slot: Slot,

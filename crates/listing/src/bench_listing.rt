@@ -11,7 +11,7 @@ use common::Location;
 use table::Table;
 
 // The refusal, 0 for none, and the length of the text.
-#[derive(Drop)]
+#[derive(Clone, Copy)]
 pub struct ListingResult {
     pub refusal: u8,
     pub length: usize,

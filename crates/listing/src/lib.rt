@@ -1,4 +1,6 @@
 // The bench run: a pattern file in, its text out.
+#![tactic(auto)]
+
 mod bench_listing;
 mod text;
 mod until_stopped;

@@ -1,15 +1,16 @@
 // "Overflow (OVF)" and "Carry (C)".
 use crate::{machine, print};
+use std::io;
 
 // +124 added to +64 gives 10111100, and OVF is set: LODI,R0 124; ADDI,R0 64.
-pub(crate) fn overflow() {
+pub(crate) fn overflow(rt: &impl Print) -> io::Result<()> {
     let mut window = [0x04, 124, 0x84, 64];
     let s = machine::run(machine::started(0, 0, 0, 0), &mut window, 2);
-    print::text(b"Overflow, 124 + 64: R0 ");
-    print::byte(machine::r0(s));
-    print::text(b", OVF ");
-    print::number(machine::overflow(s) as u64);
-    print::verdict((machine::r0(s) == 0xBC) & (machine::overflow(s) == 1));
+    print::text(rt, b"Overflow, 124 + 64: R0 ")?;
+    print::byte(rt, machine::r0(s))?;
+    print::text(rt, b", OVF ")?;
+    print::number(rt, machine::overflow(s) as u64)?;
+    print::verdict(rt, (machine::r0(s) == 0xBC) & (machine::overflow(s) == 1))
 }
 
 // The low order bit of the result, as the table prints it: for a row, bit 2 is the minuend, bit 1 the subtrahend, bit 0 the carry.

@@ -1,6 +1,7 @@
 // "Indirect Addressing": both examples load H'67' into R2 through the pointer H'128'.
 use crate::{machine, print};
 use registers::State;
+use std::io;
 
 // LODA,R2 *H'51' at 10h, ACON H'128' at 51h, DATA H'67' at 128h.
 fn absolute() -> State {
@@ -25,9 +26,9 @@ fn relative() -> State {
     machine::step(machine::started(0x10, 0, 0, 0), &mut window)
 }
 
-pub(crate) fn examples() {
-    print::text(b"Indirect Addressing, example 1: ");
-    print::r2(absolute(), 0x67);
-    print::text(b"Indirect Addressing, example 2: ");
-    print::r2(relative(), 0x67);
+pub(crate) fn examples(rt: &impl Print) -> io::Result<()> {
+    print::text(rt, b"Indirect Addressing, example 1: ")?;
+    print::r2(rt, absolute(), 0x67)?;
+    print::text(rt, b"Indirect Addressing, example 2: ")?;
+    print::r2(rt, relative(), 0x67)
 }

@@ -1,13 +1,14 @@
-// Standard output, piece by piece. What a write answers is left: a program that can't write has nobody to tell.
+// Standard output, piece by piece. A write that fails ends the program: `main` returns its error.
 use crate::machine;
 use registers::State;
+use std::io;
 
-pub(crate) fn text(s: &[u8]) {
-    let _written = io::write_all(1, s);
+pub(crate) fn text(rt: &impl Print, s: &[u8]) -> io::Result<()> {
+    rt.write_all(s)
 }
 
-pub(crate) fn number(n: u64) {
-    let _written = io::print_decimal(1, n);
+pub(crate) fn number(rt: &impl Print, n: u64) -> io::Result<()> {
+    print!(rt; "{n}")
 }
 
 fn digit(v: u8) -> u8 {
@@ -16,23 +17,23 @@ fn digit(v: u8) -> u8 {
 }
 
 // A byte in the manual's way: two hexadecimal digits, capitals.
-pub(crate) fn byte(v: u8) {
+pub(crate) fn byte(rt: &impl Print, v: u8) -> io::Result<()> {
     let s = [digit(v / 16), digit(v)];
-    text(&s);
+    text(rt, &s)
 }
 
 // A line's end: whether the manual says the same.
-pub(crate) fn verdict(agrees: bool) {
+pub(crate) fn verdict(rt: &impl Print, agrees: bool) -> io::Result<()> {
     if agrees {
-        text(b": as in the manual\n");
+        text(rt, b": as in the manual\n")
     } else {
-        text(b": NOT as in the manual\n");
+        text(rt, b": NOT as in the manual\n")
     }
 }
 
 // What R2 holds, against what the manual loads into it.
-pub(crate) fn r2(s: State, expected: u8) {
-    text(b"R2 ");
-    byte(machine::r2(s));
-    verdict(machine::r2(s) == expected);
+pub(crate) fn r2(rt: &impl Print, s: State, expected: u8) -> io::Result<()> {
+    text(rt, b"R2 ")?;
+    byte(rt, machine::r2(s))?;
+    verdict(rt, machine::r2(s) == expected)
 }

@@ -2,8 +2,9 @@
 ghost use Rattle.std.specs.Prelude.{◌≤◌};
 
 use crate::{branch, carry, decimal, parity, print};
+use std::io;
 
-#[derive(Drop)]
+#[derive(Clone, Copy)]
 pub enum Family {
     Borrow,
     Sum,
@@ -42,13 +43,19 @@ fn count(family: Family, cases: u64) -> u64
     n
 }
 
-pub(crate) fn line(name: &[u8], family: Family, cases: u64, what: &[u8]) {
-    print::text(name);
-    print::text(b": ");
-    print::number(count(family, cases));
-    print::text(b" of ");
-    print::number(cases);
-    print::text(b" ");
-    print::text(what);
-    print::text(b" as in the manual\n");
+pub(crate) fn line(
+    rt: &impl Print,
+    name: &[u8],
+    family: Family,
+    cases: u64,
+    what: &[u8],
+) -> io::Result<()> {
+    print::text(rt, name)?;
+    print::text(rt, b": ")?;
+    print::number(rt, count(family, cases))?;
+    print::text(rt, b" of ")?;
+    print::number(rt, cases)?;
+    print::text(rt, b" ")?;
+    print::text(rt, what)?;
+    print::text(rt, b" as in the manual\n")
 }

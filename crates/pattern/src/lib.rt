@@ -1,5 +1,7 @@
 // Pattern files of forms 1 and 2: reading, the two bodies, writing. A pattern is the parameters of a partition, the window's bytes and a
 // first input; each has exactly one file (specs/Theorems.antt).
+#![tactic(auto)]
+
 mod frame;
 mod image;
 mod parameters;

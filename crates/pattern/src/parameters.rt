@@ -7,7 +7,7 @@ use common::{Address, Layout};
 use slices::{byte, put_byte, put_u16, u16_at};
 
 // What `PB` holds: how the partition is divided, the start address, and the quantum (document 01: stint).
-#[derive(Drop)]
+#[derive(Clone, Copy)]
 pub struct Parameters {
     pub layout: Layout,
     pub start: Address,

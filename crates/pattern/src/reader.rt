@@ -14,7 +14,7 @@ use common::{Address, Layout};
 use slices::{byte, front};
 
 // The parameters, or the number of the refusal.
-#[derive(Drop)]
+#[derive(Clone, Copy)]
 pub enum ReadResult {
     Accepted(Parameters),
     Refused(u8),

@@ -11,7 +11,7 @@ use crate::parameters::{Parameters, encode_parameters, form_of, is_in_range, par
 use slices::front;
 
 // The length of the written file, or the number of the refusal.
-#[derive(Drop)]
+#[derive(Clone, Copy)]
 pub enum WriteResult {
     Written(usize),
     Refused(u8),

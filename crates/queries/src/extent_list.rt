@@ -25,7 +25,7 @@ pub(crate) fn extent_size(e: Extent) -> usize
 }
 
 // Extents, one behind the other: the first `count` of `extents`. Eight partitions leave at most nine.
-#[derive(Drop)]
+#[derive(Clone, Copy)]
 pub(crate) struct ExtentList {
     pub extents: [Extent; 9],
     pub count: usize,

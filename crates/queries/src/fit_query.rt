@@ -10,7 +10,7 @@ use common::{Layout, Location, is_one_to};
 use table::{Extent, Table, table_refusal};
 
 // The refusal, 0 for none, and the start, 0 if refused.
-#[derive(Drop)]
+#[derive(Clone, Copy)]
 pub struct FitAnswer {
     pub refusal: u8,
     pub location: Location,

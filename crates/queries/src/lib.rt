@@ -1,4 +1,6 @@
 // What is asked of a table: a report, the backlog, where a partition fits. A query takes no memory and changes nothing.
+#![tactic(auto)]
+
 mod backlog_query;
 mod extent_list;
 mod fit_query;

@@ -1,5 +1,5 @@
 // What is reported of a slot: document 01's status, counter, registers, PSU with Sense and PSL; and the refusal, 0 for none.
-#[derive(Drop)]
+#[derive(Clone, Copy)]
 pub struct Report {
     pub refusal: u8,
     pub status: u8,

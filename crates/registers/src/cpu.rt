@@ -6,7 +6,7 @@ use common::Address;
 
 // The machine's registers, as they are kept between runs (document 01's machine).
 // Registers: R0, R1 to R3 of bank 0, R1 to R3 of bank 1. PSU is stored without Sense.
-#[derive(Drop)]
+#[derive(Clone, Copy)]
 pub struct Cpu {
     pub counter: u16,
     pub registers: [u8; 7],

@@ -10,7 +10,7 @@ use common::Address;
 // A `Cpu` while it runs: whole words only, so that the compiler keeps each in a register of its own.
 // `registers` has R0 in its lowest byte, then R1 to R3 of the bank in use, then those of the other bank.
 // `low` and `high` have four return addresses each. No other file touches a field.
-#[derive(Drop)]
+#[derive(Clone, Copy)]
 pub struct PackedCpu {
     pub counter: u64,
     pub psu: u64,

@@ -5,7 +5,7 @@ ghost use Rattle.registers.specs.State.{empty_state};
 use crate::cpu::Cpu;
 
 // What is kept of a machine beside its bytes: document 01's status and the positions in its two buffers.
-#[derive(Drop)]
+#[derive(Clone, Copy)]
 pub struct State {
     pub cpu: Cpu,
     pub status: u8,

@@ -1,5 +1,7 @@
 // Runs the scripts of data/scripts.bin through the operations, and compares each answer, each buffer and each state with what
 // the script wants. make_data.py gives the layout of an entry.
+#![tactic(auto)]
+
 mod crc;
 mod entry;
 mod fields;
@@ -19,7 +21,7 @@ use std::num::wrapping_add_u64;
 use table::{Answer, Table};
 
 // The table, the table as it was before the last group of pokes, and how much memory is lent.
-#[derive(Drop)]
+#[derive(Clone, Copy)]
 struct ScriptState {
     table: Table,
     saved: Table,
@@ -27,27 +29,27 @@ struct ScriptState {
 }
 
 // Whether an entry's answer is the wanted one, and the refusal, 0 for none.
-#[derive(Drop)]
+#[derive(Clone, Copy)]
 struct Comparison {
     same: bool,
     refusal: u8,
 }
 
 // The table after a call, and its answer compared.
-#[derive(Drop)]
+#[derive(Clone, Copy)]
 struct CallResult {
     table: Table,
     comparison: Comparison,
 }
 
 // The script after an entry, and the answer compared.
-#[derive(Drop)]
+#[derive(Clone, Copy)]
 struct EntryResult {
     script: ScriptState,
     comparison: Comparison,
 }
 
-#[derive(Drop)]
+#[derive(Clone, Copy)]
 struct Tally {
     scripts: u64,
     accepted: u64,

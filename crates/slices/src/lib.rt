@@ -1,4 +1,6 @@
 // Small total functions on byte slices: places and counts past the end are answered, not refused.
+#![tactic(auto)]
+
 mod numbers;
 mod slices;
 

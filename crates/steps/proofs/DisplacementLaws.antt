@@ -12,7 +12,7 @@ plus_signed n (pos k) = n + k
 plus_signed n (negsuc k) = n - suc k
 
 signed_held : (d : ℤ) → mag d < 64 → to_z w16 (of_z w16 d) ≡ d
-signed_held d h = to_z-of_z (record { sfits = omega arith })
+signed_held d h = to_z-of_z {w = w16} (record { sfits = omega arith })
 
 signed_plus : (n : ℕ) (d : ℤ) → mag d < 64 → 64 ≤ n → n < 16384 → to_z w16 n +ℤ to_z w16 (of_z w16 d) ≡ pos (plus_signed n d)
 signed_plus n (pos k) h l u = rw (as_signed n (omega arith), signed_held (pos k) h)
@@ -26,7 +26,7 @@ pub signed_plus_fits : (n : ℕ) (d : ℤ) → mag d < 64 → 64 ≤ n → n < 1
 signed_plus_fits n d h l u = rw (signed_plus n d h l u) (record { sfits = plus_signed_small n d h u })
 
 pub signed_plus_back : (n : ℕ) (d : ℤ) → mag d < 64 → 64 ≤ n → n < 16384 → to_z w16 (of_z w16 (to_z w16 n +ℤ to_z w16 (of_z w16 d))) ≡ pos (plus_signed n d)
-signed_plus_back n d h l u = to_z-of_z (signed_plus_fits n d h l u) ∙ signed_plus n d h l u
+signed_plus_back n d h l u = to_z-of_z {w = w16} (signed_plus_fits n d h l u) ∙ signed_plus n d h l u
 
 pub plus_signed_fits : (n : ℕ) (d : ℤ) → mag d < 64 → n < 16384 → Fits w16 (plus_signed n d)
 plus_signed_fits n d h u = let l : plus_signed n d < 32768 = plus_signed_small n d h u in record { fits = omega arith }

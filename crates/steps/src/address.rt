@@ -5,13 +5,13 @@ ghost use Rattle.steps.specs.Address.{add_in_page, add_wrapping, address_of, fet
 
 use common::Address;
 
-#[derive(Drop)]
+#[derive(Clone, Copy)]
 pub enum Fetched {
     Byte(u8),
     NoByte,
 }
 
-#[derive(Drop)]
+#[derive(Clone, Copy)]
 pub enum Resolved {
     At(Address),
     Outside,

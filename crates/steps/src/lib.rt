@@ -1,5 +1,7 @@
 // What a step of the 2650 is made of: addresses and fetches, operands and stores, and the ways in which a step ends. It knows no branch, no
 // port and no table.
+#![tactic(auto)]
+
 mod address;
 mod operand;
 mod result;

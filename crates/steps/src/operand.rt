@@ -14,7 +14,7 @@ use registers::PackedCpu;
 
 // An operand: its byte, its address, the control bits (not 0 where R0 is the data), and the registers after the
 // instruction's own bytes. `data_register` makes a register's number of the control bits, and of the one that the code names.
-#[derive(Drop)]
+#[derive(Clone, Copy)]
 pub enum OperandResult {
     Ready(u8, Address, u8, PackedCpu),
     Missing,

@@ -10,7 +10,7 @@ use common::Address;
 use registers::PackedCpu;
 
 // What a step does beside the registers, in whole words: an address and a byte, or a byte.
-#[derive(Drop)]
+#[derive(Clone, Copy)]
 pub enum PackedEffect {
     Nothing,
     Store(u64, u64),
@@ -19,7 +19,7 @@ pub enum PackedEffect {
 }
 
 // What a step comes to.
-#[derive(Drop)]
+#[derive(Clone, Copy)]
 pub struct PackedStep {
     pub cpu: PackedCpu,
     pub status: u8,

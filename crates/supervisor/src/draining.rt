@@ -12,7 +12,7 @@ use system::system_loaded_slot_refusal;
 use table::{Slot, Table};
 
 // The refusal, 0 for none, how many bytes were drained, and the table.
-#[derive(Drop)]
+#[derive(Clone, Copy)]
 pub struct DrainAnswer {
     pub refusal: u8,
     pub count: usize,

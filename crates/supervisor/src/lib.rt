@@ -1,4 +1,6 @@
 // What is done to one slot of a system: loading, unloading, feeding and draining.
+#![tactic(auto)]
+
 mod draining;
 mod feeding;
 mod loading;

@@ -1,4 +1,6 @@
 // A table and its memory: what refuses a call with both, and the rounds that its machines make.
+#![tactic(auto)]
+
 mod conditions;
 mod running;
 

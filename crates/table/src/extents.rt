@@ -1,7 +1,7 @@
 // A run of bytes of a memory.
 
 // The bytes of memory from `start` on, up to `end` and without it.
-#[derive(Drop)]
+#[derive(Clone, Copy)]
 pub struct Extent {
     pub start: usize,
     pub end: usize,

@@ -1,4 +1,6 @@
 // The table of eight slots, without its memory: which tables are sound, their free bytes, and what refuses a call with a table.
+#![tactic(auto)]
+
 mod extents;
 mod free_bytes;
 mod recounting;

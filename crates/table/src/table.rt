@@ -7,7 +7,7 @@ use registers::{Cpu, State};
 
 // What stays of a slot from load to unload (document 01's bay): where its bytes start in memory, how they are divided, and how many
 // steps it takes in a round (document 01's stint).
-#[derive(Drop)]
+#[derive(Clone, Copy)]
 pub struct Partition {
     pub base: Location,
     pub layout: Layout,
@@ -45,7 +45,7 @@ impl Partition {
 }
 
 // Document 01's station: its partition, and what runs in it.
-#[derive(Drop)]
+#[derive(Clone, Copy)]
 pub struct Slot {
     pub partition: Partition,
     pub state: State,
@@ -64,7 +64,7 @@ impl Slot {
 
 // Document 01's record: the length of the memory, how many of its bytes are in no partition, the length of the widest free extent (document
 // 02, U5), and eight slots.
-#[derive(Drop)]
+#[derive(Clone, Copy)]
 pub struct Table {
     pub size: u32,
     pub free: u32,
@@ -74,7 +74,7 @@ pub struct Table {
 
 // The refusal, 0 for none, and the table: the given one where a call is refused. A refused `Table::new`, which is given none, has an
 // all-zero one.
-#[derive(Drop)]
+#[derive(Clone, Copy)]
 pub struct Answer {
     pub refusal: u8,
     pub table: Table,

@@ -3,9 +3,10 @@ use crate::entry::{name, wanted_text};
 use crate::printing::print;
 use listing::ListingResult;
 use slices::front;
+use std::io;
 
 // Whether the bench run prints the wanted text; a difference is printed.
-pub(crate) fn same_text(entry: &[u8], file: &[u8]) -> bool {
+pub(crate) fn same_text(rt: &impl Print, entry: &[u8], file: &[u8]) -> io::Result<bool> {
     let mut memory = [0u8; ListingResult::MEMORY_LENGTH];
     let mut text = [0u8; ListingResult::MAX_TEXT];
     let listed = listing::listing(file, &mut memory, &mut text);
@@ -13,12 +14,12 @@ pub(crate) fn same_text(entry: &[u8], file: &[u8]) -> bool {
     let wanted = wanted_text(entry);
     let same = check::same(got, wanted);
     if !same {
-        print(b"bench run differs: ");
-        print(name(entry));
-        print(b"\nwanted:\n");
-        print(wanted);
-        print(b"got:\n");
-        print(got);
+        print(rt, b"bench run differs: ")?;
+        print(rt, name(entry))?;
+        print(rt, b"\nwanted:\n")?;
+        print(rt, wanted)?;
+        print(rt, b"got:\n")?;
+        print(rt, got)?;
     }
-    same
+    Ok(same)
 }

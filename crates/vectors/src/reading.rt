@@ -2,9 +2,10 @@
 use crate::entry::{name, wanted_code, wanted_input, wanted_parameters, wanted_refusal};
 use crate::printing::{print, print_number};
 use pattern::{Parameters, ReadResult};
+use std::io;
 
 // A refusal, 0 for none; the parameters; the lengths of the bodies of `PC` and `PI`.
-#[derive(Drop)]
+#[derive(Clone, Copy)]
 struct Reading {
     refusal: u16,
     parameters: Parameters,
@@ -59,35 +60,35 @@ fn same_bodies(entry: &[u8], file: &[u8]) -> bool {
         & check::same(pattern::input_body(file), wanted_input(entry, file))
 }
 
-fn print_reading(before: &[u8], r: Reading) {
+fn print_reading(rt: &impl Print, before: &[u8], r: Reading) -> io::Result<()> {
     let parameters = r.parameters;
     let layout = parameters.layout;
     let start = parameters.start;
-    print(before);
-    print_number(b" refusal ", r.refusal as u64);
-    print_number(b" parameters ", layout.window as u64);
-    print_number(b" ", layout.input as u64);
-    print_number(b" ", layout.output as u64);
-    print_number(b" ", start.0 as u64);
-    print_number(b" ", parameters.quantum as u64);
-    print_number(b" ", layout.locked as u64);
-    print_number(b" bodies ", r.code as u64);
-    print_number(b" ", r.input as u64);
-    print(b"\n");
+    print(rt, before)?;
+    print_number(rt, b" refusal ", r.refusal as u64)?;
+    print_number(rt, b" parameters ", layout.window as u64)?;
+    print_number(rt, b" ", layout.input as u64)?;
+    print_number(rt, b" ", layout.output as u64)?;
+    print_number(rt, b" ", start.0 as u64)?;
+    print_number(rt, b" ", parameters.quantum as u64)?;
+    print_number(rt, b" ", layout.locked as u64)?;
+    print_number(rt, b" bodies ", r.code as u64)?;
+    print_number(rt, b" ", r.input as u64)?;
+    print(rt, b"\n")
 }
 
 // Whether the file is read as its entry wants; a difference is printed.
-pub(crate) fn same_reading(entry: &[u8], file: &[u8]) -> bool {
+pub(crate) fn same_reading(rt: &impl Print, entry: &[u8], file: &[u8]) -> io::Result<bool> {
     let want = wanted_reading(entry, file);
     let got = reading_of(file);
     let same = (want.refusal == got.refusal)
         & same_parameters(want.parameters, got.parameters)
         & same_bodies(entry, file);
     if !same {
-        print(b"read differs: ");
-        print(name(entry));
-        print_reading(b"\nwanted", want);
-        print_reading(b"got", got);
+        print(rt, b"read differs: ")?;
+        print(rt, name(entry))?;
+        print_reading(rt, b"\nwanted", want)?;
+        print_reading(rt, b"got", got)?;
     }
-    same
+    Ok(same)
 }

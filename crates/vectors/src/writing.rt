@@ -4,6 +4,7 @@ use crate::printing::{print, print_number};
 use listing::ListingResult;
 use pattern::{Parameters, ReadResult, WriteResult};
 use slices::{copy, front};
+use std::io;
 
 // Writes the pattern of `file` to the front of `buffer`; answers the length, 0 for a refusal.
 fn write_again(file: &[u8], parameters: Parameters, buffer: &mut [u8]) -> usize {
@@ -22,20 +23,20 @@ fn write_again(file: &[u8], parameters: Parameters, buffer: &mut [u8]) -> usize 
 }
 
 // Whether the file comes out again, or is refused; a difference is printed.
-pub(crate) fn rewrites_same(entry: &[u8], file: &[u8]) -> bool {
+pub(crate) fn rewrites_same(rt: &impl Print, entry: &[u8], file: &[u8]) -> io::Result<bool> {
     let answer = pattern::read(file);
     let ReadResult::Accepted(parameters) = answer else {
-        return true;
+        return Ok(true);
     };
     let mut buffer = [0u8; ListingResult::MAX_FILE];
     let length = write_again(file, parameters, &mut buffer);
     let same = check::same(front(&buffer, length), file);
     if !same {
-        print(b"written again differs: ");
-        print(name(entry));
-        print_number(b"\nwanted the same file, of ", file.len() as u64);
-        print_number(b" bytes\ngot another, of ", length as u64);
-        print(b" bytes\n");
+        print(rt, b"written again differs: ")?;
+        print(rt, name(entry))?;
+        print_number(rt, b"\nwanted the same file, of ", file.len() as u64)?;
+        print_number(rt, b" bytes\ngot another, of ", length as u64)?;
+        print(rt, b" bytes\n")?;
     }
-    same
+    Ok(same)
 }

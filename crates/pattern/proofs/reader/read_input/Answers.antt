@@ -1,0 +1,17 @@
+-- `pattern::reader::read_input`: each return is the first condition that holds.
+use borrow.Author.Tests.{lt-ltb, le-ltb}
+use Rattle.pattern.specs.Reader.{input_conditions}
+use Rattle.common.specs.ConditionDefinitions.{condition_definitions}
+use Rattle.pattern.proofs.reader.read_input.Goals as goal
+
+pub returns-then-not-has_frame : goal.returns-then-not-has_frame
+unfolding condition_definitions input_conditions
+returns-then-not-has_frame c = simp (← c.has_frame.ensures, c.if-not-has_frame.true)
+
+pub returns-then-layout-body_length : goal.returns-then-layout-body_length
+unfolding condition_definitions input_conditions
+returns-then-layout-body_length c = simp (← c.has_frame.ensures, c.if-not-has_frame.false, ← c.body_length.ensures, lt-ltb _ _ c.if-layout-body_length.true)
+
+pub returns : goal.returns
+unfolding condition_definitions input_conditions
+returns c = simp (← c.has_frame.ensures, c.if-not-has_frame.false, ← c.body_length.ensures, le-ltb _ _ c.if-layout-body_length.false)
