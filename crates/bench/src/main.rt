@@ -16,10 +16,7 @@ fn main(rt: HostRuntime) -> io::Result<()> {
 }
 
 // Reads until the buffer is full or the input ends; answers how many bytes it put to the front of the buffer.
-fn read_full<R: Read>(input: R, buffer: &mut [u8]) -> io::Result<usize>
-where
-    R: Drop,
-{
+fn read_full(input: impl Read + Drop, buffer: &mut [u8]) -> io::Result<usize> {
     let mut limited = input.take(buffer.len() as u64);
     let mut room = buffer;
     Ok(io::copy(&mut limited, &mut room)? as usize)

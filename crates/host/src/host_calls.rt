@@ -136,7 +136,7 @@ pub extern "C" fn pf_run(table: &mut [u8], memory: &mut [u8], rounds: u16) -> u3
         return answer(1, 0);
     }
     let before = decode_table(&table[..]);
-    let done = system::run(before, memory, rounds);
+    let done = supervisor::run(before, memory, rounds);
     let refusal = done.refusal;
     let after = done.table;
     store_accepted(table, refusal, after);

@@ -5,7 +5,7 @@ ghost use Rattle.lend.specs.Lent.{drain_slot_outcome, drain_slot_of};
 use lend::{SlotAnswer, drain_lent};
 use table::Slot;
 
-// Lends the slot. A function that lends a struct has a proof by hand, so this one does nothing else.
+// Lends the slot, and answers it as the drain leaves it.
 pub(crate) fn drain_loan(slot: Slot, memory: &[u8], buffer: &mut [u8]) -> SlotAnswer
     ensures { drain_slot_outcome result buffer.new ≡ drain_slot_of slot memory.now buffer.old }
 {

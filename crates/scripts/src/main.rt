@@ -6,17 +6,21 @@ mod crc;
 mod entry;
 mod fields;
 mod files;
+mod input;
 mod lending;
 
 use crate::crc::crc32;
 use crate::entry::{bytes, flag, kind, length, line, number, size, slot, value16, value32};
 use crate::fields::{same_free, same_report, same_slots, with_field, with_slot};
 use crate::files::{file, same_read, same_written, write_file, written_count};
+use crate::input::read_full;
 use crate::lending::drain_loan;
 use common::Location;
 use lend::SlotAnswer;
-use libc::STDOUT_FILENO;
 use slices::{fill, front, rest, u16_at, u32_at};
+use std::fs::File;
+use std::io;
+use std::io::Read;
 use std::num::wrapping_add_u64;
 use table::{Answer, Table};
 
@@ -348,21 +352,22 @@ fn run_entry(script: ScriptState, memory: &mut [u8], entry: &[u8]) -> EntryResul
     }
 }
 
-fn print(text: &[u8]) {
-    io::write_all(STDOUT_FILENO, text);
+// A write that fails ends the program: `main` returns its error.
+fn print(rt: &impl Print, text: &[u8]) -> io::Result<()> {
+    rt.write_all(text)
 }
 
-fn print_number(before: &[u8], n: u64) {
-    print(before);
-    io::print_decimal(STDOUT_FILENO, n);
+fn print_number(rt: &impl Print, before: &[u8], n: u64) -> io::Result<()> {
+    print(rt, before)?;
+    print!(rt; "{n}")
 }
 
-fn print_difference(entry: &[u8], script: u64, refusal: u8) {
-    print_number(b"differs: script ", script);
-    print_number(b", line ", line(entry) as u64);
-    print_number(b", wanted ", wanted(entry) as u64);
-    print_number(b", answered ", refusal as u64);
-    print(b"\n");
+fn print_difference(rt: &impl Print, entry: &[u8], script: u64, refusal: u8) -> io::Result<()> {
+    print_number(rt, b"differs: script ", script)?;
+    print_number(rt, b", line ", line(entry) as u64)?;
+    print_number(rt, b", wanted ", wanted(entry) as u64)?;
+    print_number(rt, b", answered ", refusal as u64)?;
+    print(rt, b"\n")
 }
 
 fn count_entry(tally: Tally, entry: &[u8], comparison: Comparison) -> Tally {
@@ -379,15 +384,20 @@ fn count_entry(tally: Tally, entry: &[u8], comparison: Comparison) -> Tally {
 }
 
 // The tally with this entry; an entry that differs is printed.
-fn tally_entry(tally: Tally, entry: &[u8], comparison: Comparison) -> Tally {
+fn tally_entry(
+    rt: &impl Print,
+    tally: Tally,
+    entry: &[u8],
+    comparison: Comparison,
+) -> io::Result<Tally> {
     let next = count_entry(tally, entry, comparison);
     if !comparison.same {
-        print_difference(entry, next.scripts, comparison.refusal);
+        print_difference(rt, entry, next.scripts, comparison.refusal)?;
     }
-    next
+    Ok(next)
 }
 
-fn run_all(entries: &[u8], memory: &mut [u8]) -> Tally {
+fn run_all(rt: &impl Print, entries: &[u8], memory: &mut [u8]) -> io::Result<Tally> {
     let mut tally = Tally {
         scripts: 0,
         accepted: 0,
@@ -399,41 +409,35 @@ fn run_all(entries: &[u8], memory: &mut [u8]) -> Tally {
     let mut at: usize = 0;
     while at < 655360 {
         if entries.len() <= at {
-            return tally;
+            return Ok(tally);
         }
         let entry = rest(entries, at);
         let result = run_entry(script, memory, entry);
-        tally = tally_entry(tally, entry, result.comparison);
+        tally = tally_entry(rt, tally, entry, result.comparison)?;
         script = result.script;
         at = at + 20 + length(entry) as usize;
     }
-    tally
+    Ok(tally)
 }
 
 // The buffer takes the whole file.
-fn run_file(fd: i32, buffer: &mut [u8]) -> Tally {
-    let n = io::read_full(fd, buffer);
-    libc::close(fd);
+fn run_file(rt: &impl Print, input: impl Read + Drop, buffer: &mut [u8]) -> io::Result<Tally> {
+    let n = read_full(input, buffer)?;
     let mut memory = [0u8; 65537];
-    run_all(front(buffer, n), &mut memory)
+    run_all(rt, front(buffer, n), &mut memory)
 }
 
-fn print_tally(tally: Tally) {
-    print_number(b"", tally.scripts);
-    print_number(b" scripts: ", tally.accepted);
-    print_number(b" calls accepted, ", tally.refused);
-    print_number(b" refused, ", tally.states);
-    print_number(b" states compared, ", tally.different);
-    print(b" different\n");
+fn print_tally(rt: &impl Print, tally: Tally) -> io::Result<()> {
+    print_number(rt, b"", tally.scripts)?;
+    print_number(rt, b" scripts: ", tally.accepted)?;
+    print_number(rt, b" calls accepted, ", tally.refused)?;
+    print_number(rt, b" refused, ", tally.states)?;
+    print_number(rt, b" states compared, ", tally.different)?;
+    print(rt, b" different\n")
 }
 
-fn main() {
-    let path = b"scripts.bin";
-    let fd = os::open_read(path);
-    if fd < 0 {
-        os::fail(path);
-        return;
-    }
+fn main(rt: HostRuntime) -> io::Result<()> {
+    let file = File::open(&rt, "scripts.bin")?;
     let mut buffer = [0u8; 655360];
-    print_tally(run_file(fd, &mut buffer));
+    print_tally(&rt, run_file(&rt, file, &mut buffer)?)
 }

@@ -5,7 +5,7 @@ use Rattle.common.specs.Choice.{if◌then◌else◌}
 use Rattle.common.specs.Refusals.{Condition, refusal_by}
 use Rattle.common.specs.declared.places.Location.{Location}
 use Rattle.pattern.specs.Reader.{parameters_of}
-use Rattle.system.specs.System.{System, system, slot_of, Patch, patched, Outcome, outcome_by}
+use Rattle.system.specs.System.{System, system, slot_of, Patch, patched, Outcome}
 use Rattle.table.specs.TableConditions.{empty_slot_conditions, loaded_slot_conditions}
 use Rattle.system.specs.Conditions.{system_conditions}
 use Rattle.supervisor.specs.Loading.{file_conditions, location_conditions, partition_for, load_patch}
@@ -82,7 +82,7 @@ after_accepted (query q) x = x
 
 -- and after any call: a refused one leaves everything
 unfoldable pub after_call : Call → System → System
-after_call c x = (outcome_by (refusal c x) (after_accepted c x) x).after
+after_call c x = if is_accepted c x then after_accepted c x else x
 
 -- what a call answers and leaves, as one value: every contract of an operation is an equation of this
 unfoldable pub outcome_of : Call → System → Outcome

@@ -51,11 +51,11 @@ use Rattle.common.specs.ConditionDefinitions.{condition_definitions}
 
 -- ---- load
 
-file_numbered : (file : List ℕ) → NoneGivesZero (file_conditions file)
+pub file_numbered : (file : List ℕ) → NoneGivesZero (file_conditions file)
 unfolding file_conditions
 file_numbered file = (given_numbered (read_refusal (read_of file)), tt)
 
-location_numbered : (t : Table) (k : ℕ) (p : Partition) → NoneGivesZero (location_conditions t k p)
+pub location_numbered : (t : Table) (k : ℕ) (p : Partition) → NoneGivesZero (location_conditions t k p)
 unfolding location_conditions
 location_numbered t k p = (λ e. omega arith, (λ e. omega arith, tt))
 

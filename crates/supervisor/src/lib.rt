@@ -1,6 +1,7 @@
-// What is done to one slot of a system: loading, unloading, feeding and draining.
+// The calls on eight slots over one memory: loading, unloading, feeding, draining and running.
 #![tactic(auto)]
 
+mod calls;
 mod draining;
 mod feeding;
 mod loading;
@@ -8,6 +9,7 @@ mod location;
 mod resuming;
 mod unloading;
 
+pub use calls::run;
 pub use draining::{DrainAnswer, drain};
 pub use feeding::feed;
 pub use loading::load;

@@ -4,4 +4,4 @@ use Rattle.cpu.proofs.partition.bounds_of.Goals as goal
 
 pub returns : goal.returns
 unfolding bounds_of
-returns c = let g = c.struct_known-1.given in let f = c.ranges.filled.fits in record { value = rw (← c.min-window_end.ensures.value, ← c.min-input_end.ensures.value, ← c.min-output_end.ensures.value); bounds_hold = record { window_end = c.min-window_end.ensures.value; input_end = c.min-input_end.ensures.value; output_end = c.min-output_end.ensures.value; input_start = omega arith; output_start = omega arith; input_size = omega arith; end = omega arith; output_size = omega arith; filled = omega arith } }
+returns c = record { value = rw (← c.min-window_end.ensures.value, ← c.min-input_end.ensures.value, ← c.min-output_end.ensures.value); bounds_hold = record { window_end = c.min-window_end.ensures.value; input_end = c.min-input_end.ensures.value; output_end = c.min-output_end.ensures.value; input_start = omega arith; output_start = omega arith; input_size = omega arith; end = omega arith; output_size = omega arith; filled = omega arith } }

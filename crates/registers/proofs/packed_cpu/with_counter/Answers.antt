@@ -7,4 +7,4 @@ use Rattle.registers.proofs.packed_cpu.with_counter.Goals as goal
 
 pub returns : goal.returns
 unfolding with_counter cpu_of
-returns c = let l = c.struct_known-1.given in let e : c.args.a.0 % 65536 ≡ c.args.a.0 = omega arith in rw (e)
+returns c = let e : c.args.a.0 % 65536 ≡ c.args.a.0 = omega arith in rw (e)

@@ -1,7 +1,7 @@
 use Prim.Native.Nat.{◌/◌}
-use Rattle.decode.proofs.LastArmLaws.{last_class, last_arm_least}
 use Rattle.decode.specs.Decode.{decode_of}
 use mathlib.Core.Path.{◌≡◌}
+use native.Mathlib.Omega.{arith}
 use Rattle.decode.proofs.decode.Instruction.decode.Goals as goal
 
 pub returns-in-0 : goal.returns-in-0
@@ -258,4 +258,4 @@ returns-in-62 c = rw c.in-62.is
 
 pub returns-in_default : goal.returns-in_default
 unfolding decode_of
-returns-in_default c = let h : c.args.op / 4 ≡ 63 = last_class c.args.op c.ranges.op.fits (last_arm_least 63 (c.args.op / 4) c.in_default.in_default-own.rest) in rw h
+returns-in_default c = let h : c.args.op / 4 ≡ 63 = omega arith in rw h
