@@ -1,6 +1,6 @@
 """The crate of small/, laid out as a project.
 
-Its files are stored with the ending .txt: a file of Rattle outside crates/ is an error to `rt`.
+Its files are stored with the ending .txt: a file of Rattle outside crates/, and a second crates.txt, are errors to `rt`.
 """
 import os
 
@@ -20,4 +20,4 @@ def lay(root):
         for name in names:
             path = os.path.relpath(os.path.join(place, name), stored)
             with open(os.path.join(place, name), encoding="utf-8") as file:
-                write(os.path.join(root, path if path == "crates.txt" else path[:-4]), file.read())
+                write(os.path.join(root, path.removesuffix(".txt")), file.read())
