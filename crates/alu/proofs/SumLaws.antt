@@ -1,7 +1,7 @@
 -- Sums of bytes: the signed one is out of range exactly if the carries into and out of bit 7 differ.
 use Rattle.std.proofs.Common.{◌≡◌, ℕ, zero, suc, ◌+◌, ◌*◌, ◌/◌, ◌%◌, ◌<◌, ◌≤◌, Bool, true, false, ltb, refl, ap, ◌∙◌, arith, ltb-false, ltb-true}
 use Rattle.alu.specs.Alu.{biased, overflow_of}
-use Rattle.common.specs.Choice.{if◌then◌else◌}
+use Rattle.common.specs.Choice.{when◌then◌else◌}
 
 one_negative : (low c : ℕ) → low < 256 → c ≡ (low + 128) / 256 → (t : Bool) → ltb low 128 ≡ t → (low / 128 + c) % 2 ≡ 0
 one_negative low c l e true h = let g : low < 128 = ltb-true _ _ h in omega arith
@@ -21,8 +21,8 @@ module _ (n low c sum : ℕ) (m : n < 3) (l : low < 256) (s : sum + 128 * n ≡ 
   sum_above : 384 ≤ sum → (low / 128 + c) % 2 ≡ 1
   sum_above h = omega arith
 
-  sum_range : (t u : Bool) → ltb sum 128 ≡ t → ltb sum 384 ≡ u → (low / 128 + c) % 2 ≡ (if ltb sum 128 then 1 else (if ltb sum 384 then 0 else 1))
-  unfolding if◌then◌else◌
+  sum_range : (t u : Bool) → ltb sum 128 ≡ t → ltb sum 384 ≡ u → (low / 128 + c) % 2 ≡ (when ltb sum 128 then 1 else (when ltb sum 384 then 0 else 1))
+  unfolding when◌then◌else◌
   sum_range true u h i = rw h (sum_below (ltb-true _ _ h))
   sum_range false true h i = rw (h, i) (sum_in_range n low c sum m l s e (ltb-false _ _ h) (ltb-true _ _ i))
   sum_range false false h i = rw (h, i) (sum_above (ltb-false _ _ i))

@@ -3,7 +3,7 @@ use Rattle.std.proofs.Common.{◌≡◌, ℕ, ◌+◌, ◌-◌, ◌%◌, ◌<◌
 use borrow.Author.Tests.{lt-leb}
 use lib.ListN.{get_or-eq_default}
 use lib.Seq.{take-set-le, take-set-lt, drop-set-add, set_out}
-use Rattle.common.specs.Choice.{if◌then◌else◌}
+use Rattle.common.specs.Choice.{when◌then◌else◌}
 use Rattle.common.specs.Layout.{layout_size}
 use Rattle.registers.specs.PackedCpu.{cpu_of}
 use Rattle.steps.specs.PackedStep.{effect_of, step_result_of}
@@ -89,7 +89,7 @@ ports_law given b c s k l p = rw (byte_law b k l p _ refl, output_full_law b k l
 
 -- an effect on the bytes is the machine's
 apply_store : (given : State) (b : Bounds) (c : Cpu) (s : ℕ) (k : Positions) (l : List ℕ) (a v : ℕ) → BoundsHold b (length l) → (t : Bool) → ltb a b.window_end ≡ t → (m : PartitionAfter) → m ≡ apply_effect_of (Store a v) b k l → machine_by_bounds given b c s m.positions m.bytes ≡ with_effect (effect_of (Store a v)) (machine_by_bounds given b c s k l)
-unfolding apply_effect_of with_effect machine_by_bounds if◌then◌else◌
+unfolding apply_effect_of with_effect machine_by_bounds when◌then◌else◌
 apply_store given b c s k l a v p true h m e =
     let g : a < b.window_end = ltb-true _ _ h in
     let d = p.window_end in
@@ -105,11 +105,11 @@ apply_store given b c s k l a v p false h m e =
     rw (e, h, set_out (take b.input_start l) a (v % 256) x)
 
 apply_take : (given : State) (b : Bounds) (c : Cpu) (s : ℕ) (k : Positions) (l : List ℕ) → ltb k.read b.filled ≡ true → (m : PartitionAfter) → m ≡ apply_effect_of Take b k l → machine_by_bounds given b c s m.positions m.bytes ≡ with_effect (effect_of Take) (machine_by_bounds given b c s k l)
-unfolding apply_effect_of with_effect machine_by_bounds if◌then◌else◌
+unfolding apply_effect_of with_effect machine_by_bounds when◌then◌else◌
 apply_take given b c s k l h m e = rw (e, h)
 
 apply_put : (given : State) (b : Bounds) (c : Cpu) (s : ℕ) (k : Positions) (l : List ℕ) (v : ℕ) → BoundsHold b (length l) → ltb (b.output_start + k.written) b.output_end ≡ true → (m : PartitionAfter) → m ≡ apply_effect_of (Put v) b k l → machine_by_bounds given b c s m.positions m.bytes ≡ with_effect (effect_of (Put v)) (machine_by_bounds given b c s k l)
-unfolding apply_effect_of with_effect machine_by_bounds if◌then◌else◌
+unfolding apply_effect_of with_effect machine_by_bounds when◌then◌else◌
 apply_put given b c s k l v p h m e =
     let g : b.output_start + k.written < b.output_end = ltb-true _ _ h in
     let d = p.output_end in
@@ -147,12 +147,12 @@ abbrev PositionsFit : PartitionAfter → Type 0
 PositionsFit m = (m.positions.read < 65536) × (m.positions.written < 65536)
 
 fit_take : (b : Bounds) (k : Positions) (l : List ℕ) (n : ℕ) → BoundsHold b n → k.read < 65536 → k.written < 65536 → (t : Bool) → ltb k.read b.filled ≡ t → PositionsFit (apply_effect_of Take b k l)
-unfolding apply_effect_of if◌then◌else◌
+unfolding apply_effect_of when◌then◌else◌
 fit_take b k l n p r w true h = let g : k.read < b.filled = ltb-true _ _ h in let f : b.filled < 65536 = p.filled in rw (h) (omega arith, w)
 fit_take b k l n p r w false h = rw (h) (r, w)
 
 fit_put : (v : ℕ) (b : Bounds) (k : Positions) (l : List ℕ) (n : ℕ) → BoundsHold b n → k.read < 65536 → k.written < 65536 → (t : Bool) → ltb (b.output_start + k.written) b.output_end ≡ t → PositionsFit (apply_effect_of (Put v) b k l)
-unfolding apply_effect_of if◌then◌else◌
+unfolding apply_effect_of when◌then◌else◌
 fit_put v b k l n p r w true h =
     let g : b.output_start + k.written < b.output_end = ltb-true _ _ h in
     let f : b.output_end ≡ min b.end n = p.output_end in
@@ -161,7 +161,7 @@ fit_put v b k l n p r w true h =
 fit_put v b k l n p r w false h = rw (h) (r, w)
 
 fit_store : (a v : ℕ) (b : Bounds) (k : Positions) (l : List ℕ) → k.read < 65536 → k.written < 65536 → (t : Bool) → ltb a b.window_end ≡ t → PositionsFit (apply_effect_of (Store a v) b k l)
-unfolding apply_effect_of if◌then◌else◌
+unfolding apply_effect_of when◌then◌else◌
 fit_store a v b k l r w true h = rw (h) (r, w)
 fit_store a v b k l r w false h = rw (h) (r, w)
 
@@ -177,7 +177,7 @@ positions_law x b k l n p r w m e = rw (e) (positions_fit x b k l n p r w)
 
 -- what lies behind the partition stays
 beyond_store : (a v : ℕ) (b : Bounds) (k : Positions) (l : List ℕ) (n : ℕ) → BoundsHold b n → (t : Bool) → ltb a b.window_end ≡ t → drop b.end (apply_effect_of (Store a v) b k l).bytes ≡ drop b.end l
-unfolding apply_effect_of if◌then◌else◌
+unfolding apply_effect_of when◌then◌else◌
 beyond_store a v b k l n p true h =
     let g : a < b.window_end = ltb-true _ _ h in
     let d1 = p.window_end in
@@ -188,12 +188,12 @@ beyond_store a v b k l n p true h =
 beyond_store a v b k l n p false h = rw (h)
 
 beyond_take : (b : Bounds) (k : Positions) (l : List ℕ) → (t : Bool) → ltb k.read b.filled ≡ t → drop b.end (apply_effect_of Take b k l).bytes ≡ drop b.end l
-unfolding apply_effect_of if◌then◌else◌
+unfolding apply_effect_of when◌then◌else◌
 beyond_take b k l true h = rw (h)
 beyond_take b k l false h = rw (h)
 
 beyond_put : (v : ℕ) (b : Bounds) (k : Positions) (l : List ℕ) (n : ℕ) → BoundsHold b n → (t : Bool) → ltb (b.output_start + k.written) b.output_end ≡ t → drop b.end (apply_effect_of (Put v) b k l).bytes ≡ drop b.end l
-unfolding apply_effect_of if◌then◌else◌
+unfolding apply_effect_of when◌then◌else◌
 beyond_put v b k l n p true h =
     let g : b.output_start + k.written < b.output_end = ltb-true _ _ h in
     let d = p.output_end in

@@ -2,7 +2,7 @@
 -- "Detailed Processor Instructions").
 use Rattle.std.specs.Prelude.{ℕ, ◌+◌, ◌/◌, ◌%◌, Bool, true, false, not, List, ◌==◌}
 use Rattle.steps.specs.Address.{add_wrapping, fetch_of, if_fetched, if_resolved, address_of, resolve_of, relative_of}
-use Rattle.common.specs.Choice.{if◌then◌else◌}
+use Rattle.common.specs.Choice.{when◌then◌else◌}
 use Rattle.steps.specs.Result.{StepResult, running_of, stopped_of, address_after, advanced_of}
 use Rattle.alu.specs.Psl.{field_cc}
 use Rattle.registers.specs.Cpu.{without_ii, psl_of, psu_of, register_of, with_register, with_counter, with_psu, call_of, return_from_call_of}
@@ -17,7 +17,7 @@ use Rattle.registers.specs.declared.cpu.Cpu.{Cpu}
 
 -- a condition holds if CC equals it, or if it is 3
 unfoldable pub condition_met_of : ℕ → ℕ → Bool
-condition_met_of psl v = if v == 3 then true else (field_cc psl == v)
+condition_met_of psl v = when v == 3 then true else (field_cc psl == v)
 
 -- BIR and BDR step the register first, modulo 256, and leave CC
 unfoldable pub register_counted_of : BranchKind → Cpu → ℕ → Cpu
@@ -58,12 +58,12 @@ is_call_of Bsn = true
 
 -- the counter goes to an address; a call stores the address of the next instruction
 unfoldable pub jump_of : Bool → Cpu → Address → Address → StepResult
-jump_of calls cpu a next = if calls then running_of (with_counter (call_of cpu next) a) else running_of (with_counter cpu a)
+jump_of calls cpu a next = when calls then running_of (with_counter (call_of cpu next) a) else running_of (with_counter cpu a)
 
 -- the target's pointer is read only if the branch is taken. A pointer outside undoes the step of the register too
 unfoldable pub branch_if_taken_of : BranchKind → Cpu → Cpu → List ℕ → ℕ → ℕ → Address → Address → StepResult
 branch_if_taken_of kind cpu counted window r indirect a next =
-    if is_taken_of kind counted r
+    when is_taken_of kind counted r
     then if_resolved (resolve_of window indirect a) (stopped_of cpu 6) (λ t. jump_of (is_call_of kind) counted t next)
     else running_of (with_counter counted next)
 
@@ -106,10 +106,10 @@ indexed_branch_of calls cpu k window =
 
 -- RETC, and RETE, which clears II if it is taken
 unfoldable pub return_if_of : Cpu → ℕ → ℕ → StepResult
-return_if_of cpu k v = if condition_met_of (psl_of cpu) v then running_of (return_from_call_of cpu) else running_of (advanced_of cpu k)
+return_if_of cpu k v = when condition_met_of (psl_of cpu) v then running_of (return_from_call_of cpu) else running_of (advanced_of cpu k)
 
 unfoldable pub clear_ii_of : Cpu → Cpu
 clear_ii_of cpu = with_psu cpu (without_ii (psu_of cpu))
 
 unfoldable pub return_enable_of : Cpu → ℕ → ℕ → StepResult
-return_enable_of cpu k v = if condition_met_of (psl_of cpu) v then running_of (clear_ii_of (return_from_call_of cpu)) else running_of (advanced_of cpu k)
+return_enable_of cpu k v = when condition_met_of (psl_of cpu) v then running_of (clear_ii_of (return_from_call_of cpu)) else running_of (advanced_of cpu k)

@@ -4,7 +4,7 @@ use Rattle.std.proofs.Common.{ap, ◌∙◌, arith}
 use Rattle.std.proofs.lemmas.List.{set-get_or}
 use Rattle.alu.specs.Alu.{condition_code_of}
 use Rattle.alu.specs.Psl.{with_cc}
-use Rattle.common.specs.Choice.{if◌then◌else◌}
+use Rattle.common.specs.Choice.{when◌then◌else◌}
 use Rattle.common.specs.Repetition.{times}
 use Rattle.common.specs.declared.places.Address.{Address}
 use Rattle.steps.specs.Address.{add_in_page, fetch_of}
@@ -46,7 +46,7 @@ cc_again psl cc = let e : (cc * 64 + psl % 64) % 64 ≡ psl % 64 = omega arith i
 
 -- filler behind filler
 behind_again : (k : ℕ) (cpu : Cpu) → behind_filler 1 (behind_filler k cpu) ≡ behind_filler (suc k) cpu
-unfolding counter_of psl_of register_index register_of with_counter with_psl if◌then◌else◌
+unfolding counter_of psl_of register_index register_of with_counter with_psl when◌then◌else◌
 behind_again k cpu = λ i. with_counter (with_psl cpu (cc_again (psl_of cpu) (condition_code_of (register_of cpu 0)) i)) (page_one_further (counter_of cpu) k i)
 
 -- k + 1 steps of a running machine through k + 1 bytes 00h, one behind the other within the page

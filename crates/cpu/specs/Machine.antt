@@ -1,6 +1,6 @@
 -- Definitions that must be believed: document 01's lone 2650, and its step.
 use Rattle.std.specs.Prelude.{ℕ, ◌+◌, List, length, take, drop, ◌==◌, nat_le, nat_lt, slice_index, slice_set}
-use Rattle.common.specs.Choice.{if◌then◌else◌}
+use Rattle.common.specs.Choice.{when◌then◌else◌}
 use Rattle.common.specs.Layout.{layout_size}
 use Rattle.cpu.specs.Instruction.{instruction_step}
 use Rattle.steps.specs.Result.{Effect, Nothing, Put, StepResult, Store, Take}
@@ -74,4 +74,4 @@ after_step s m = with_effect s.effect (with_cpu_and_status s m)
 
 -- a step at a status other than 1 changes nothing; else it is one instruction
 unfoldable pub machine_step : Machine → Machine
-machine_step m = if m.state.status == 1 then after_step (instruction_step m.state.cpu m.window m.locked (ports_of m)) m else m
+machine_step m = when m.state.status == 1 then after_step (instruction_step m.state.cpu m.window m.locked (ports_of m)) m else m

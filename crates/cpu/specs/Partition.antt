@@ -1,7 +1,7 @@
 -- What private code is held to: the parts of a partition by their bounds, as a run reads and writes them. Nothing here has to
 -- be believed: the contracts of the public functions do not mention it.
 use Rattle.std.specs.Prelude.{◌≡◌, ℕ, ◌+◌, ◌-◌, ◌%◌, ◌<◌, ◌≤◌, min, List, take, drop, nat_le, nat_lt, slice_set}
-use Rattle.common.specs.Choice.{if◌then◌else◌}
+use Rattle.common.specs.Choice.{when◌then◌else◌}
 use Rattle.common.specs.declared.layout.Layout.{Layout}
 use Rattle.cpu.specs.Machine.{Machine}
 use Rattle.registers.specs.State.{with_cpu, with_status, with_filled, with_read, with_written}
@@ -63,10 +63,10 @@ partition_after k l = record { positions = k; bytes = l }
 
 unfoldable pub apply_effect_of : PackedEffect → Bounds → Positions → List ℕ → PartitionAfter
 apply_effect_of Nothing b k l = partition_after k l
-apply_effect_of (Store a v) b k l = if nat_lt a b.window_end then partition_after k (slice_set l a (v % 256)) else partition_after k l
+apply_effect_of (Store a v) b k l = when nat_lt a b.window_end then partition_after k (slice_set l a (v % 256)) else partition_after k l
 apply_effect_of Take b k l =
-    if nat_lt k.read b.filled then partition_after (record { read = k.read + 1; written = k.written }) l else partition_after k l
+    when nat_lt k.read b.filled then partition_after (record { read = k.read + 1; written = k.written }) l else partition_after k l
 apply_effect_of (Put v) b k l =
-    if nat_lt (b.output_start + k.written) b.output_end
+    when nat_lt (b.output_start + k.written) b.output_end
     then partition_after (record { read = k.read; written = k.written + 1 }) (slice_set l (b.output_start + k.written) (v % 256))
     else partition_after k l

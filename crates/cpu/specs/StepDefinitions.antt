@@ -1,7 +1,7 @@
 -- Names for lists of definitions: `unfolding step_definitions` opens all that a step is made of, so that a worked case, or a law of one
 -- instruction, computes.
 -- Nothing here has to be believed.
-use Rattle.common.specs.Choice.{if◌then◌else◌}
+use Rattle.common.specs.Choice.{when◌then◌else◌}
 use Rattle.steps.specs.Address.{displaced_of, displacement_of, fetch_of, if_fetched, if_resolved, pointer_of, relative_of, resolve_of}
 use Rattle.alu.specs.Alu.{adjust_digit_of, carry_in_of, compare_cc_of, compare_result_of, condition_code_of, decimal_adjust_of, load_result_of, operation_result_of, overflow_of, rotate_left_of, rotate_result_of, rotate_right_of, signed_of, sum_result_of, test_cc_of, test_psl_of}
 use Rattle.cpu.specs.Branch.{branch_if_taken_of, branch_of, clear_ii_of, condition_met_of, indexed_branch_of, is_call_of, is_taken_of, jump_of, register_counted_of, return_enable_of, return_if_of, target_of, zero_branch_of}
@@ -42,5 +42,5 @@ branch_definitions = Unit {0}
 
 -- all of these, and what puts them together
 unfoldable pub step_definitions : Type 0
-unfolding cpu_definitions alu_definitions address_definitions operand_definitions branch_definitions if◌then◌else◌ each_of_four first_and_rest rest_and_last decode_of advanced_of with_alu_result register_changed_of operated_of psu_with_sense masked_of tested_of read_data_of write_data_of execute_of instruction_step with_effect machine_step
+unfolding cpu_definitions alu_definitions address_definitions operand_definitions branch_definitions when◌then◌else◌ each_of_four first_and_rest rest_and_last decode_of advanced_of with_alu_result register_changed_of operated_of psu_with_sense masked_of tested_of read_data_of write_data_of execute_of instruction_step with_effect machine_step
 step_definitions = Unit {0}

@@ -16,7 +16,7 @@ use Rattle.registers.specs.Cpu.{counter_of}
 use Rattle.cpu.specs.Psw.{masked_of, tested_of}
 use Rattle.steps.specs.AddressLaws.{byte_all, address_all}
 use Rattle.steps.specs.OperandLaws.{read_free, locked_below, free_above}
-use Rattle.common.specs.Choice.{if◌then◌else◌}
+use Rattle.common.specs.Choice.{when◌then◌else◌}
 use Rattle.common.specs.ChoiceLaws.{if_all}
 use Rattle.cpu.specs.WrtdSteps.{is_wrtd, is_at_wrtd}
 use Rattle.common.specs.declared.places.Address.{Address}
@@ -113,7 +113,7 @@ module _ (cpu : Cpu) (w : List ℕ) (n : ℕ) (p : Ports) where
       locked_ends (Read f) a h e = absurd (false≢true (sym (read_free f a n) ∙ e))
       locked_ends Write a h e = finds_locked a (locked_below a n e) h
 
-      if_operand_ends : (o : Operand) (access : Access) → OperandInside o → Ends (if_operand o (stopped_of cpu 6) (λ b a d next. if is_locked access a n then stopped_of cpu 8 else access_of access next d b a))
+      if_operand_ends : (o : Operand) (access : Access) → OperandInside o → Ends (if_operand o (stopped_of cpu 6) (λ b a d next. when is_locked access a n then stopped_of cpu 8 else access_of access next d b a))
       if_operand_ends (Found b a d next) access (found _ _ _ _ h g) = if_all Ends (λ e. locked_ends access a h e) (λ e. access_ends access b a d next h g e)
       if_operand_ends NoOperand access missing = outside
 

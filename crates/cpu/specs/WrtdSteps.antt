@@ -1,6 +1,6 @@
 -- Definitions that must be believed: the steps that put a byte out (document 01, demand 2: the count of its WRTD steps).
 use Rattle.std.specs.Prelude.{ℕ, zero, suc, ◌+◌, Bool, true, false, not, ◌&&◌, List, ◌==◌}
-use Rattle.common.specs.Choice.{if◌then◌else◌}
+use Rattle.common.specs.Choice.{when◌then◌else◌}
 use Rattle.common.specs.Repetition.{times}
 use Rattle.steps.specs.Address.{fetch_of, if_fetched}
 use Rattle.decode.specs.Decode.{decode_of}
@@ -54,4 +54,4 @@ executes_wrtd m = m.state.status == 1 && (is_at_wrtd m.state.cpu m.window && not
 -- how many of n steps do so
 unfoldable pub wrtd_steps : ℕ → Machine → ℕ
 wrtd_steps zero m = 0
-wrtd_steps (suc n) m = wrtd_steps n m + (if executes_wrtd (times n machine_step m) then 1 else 0)
+wrtd_steps (suc n) m = wrtd_steps n m + (when executes_wrtd (times n machine_step m) then 1 else 0)

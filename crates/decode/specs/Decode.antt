@@ -2,7 +2,7 @@
 -- has it (U4), and the unknown codes are document 01's.
 -- Codes come in 64 classes of four; the last two bits name a register or a condition, or tell four instructions apart.
 use Rattle.std.specs.Prelude.{Bool, true, false, List, [], ◌∷◌, ℕ, ◌/◌, ◌%◌, eqb, get_or}
-use Rattle.common.specs.Choice.{if◌then◌else◌}
+use Rattle.common.specs.Choice.{when◌then◌else◌}
 use Rattle.alu.specs.declared.alu.Operation.TheVariants.{Lod, Eor, And, Ior, Add, Sub, Com}
 use Rattle.decode.specs.declared.decode.Mode.{Mode}
 use Rattle.decode.specs.declared.decode.Mode.TheVariants.{Register, Immediate, Relative, Absolute}
@@ -19,14 +19,14 @@ all_four a r = a
 
 -- an instruction for each of the four
 unfoldable pub each_of_four : Instruction → Instruction → Instruction → Instruction → ℕ → Instruction
-each_of_four a b c d r = if eqb r 0 then a else (if eqb r 1 then b else (if eqb r 2 then c else d))
+each_of_four a b c d r = when eqb r 0 then a else (when eqb r 1 then b else (when eqb r 2 then c else d))
 
 -- one instruction for the first code and one for the other three; one for the first three and one for the last
 unfoldable pub first_and_rest : Instruction → Instruction → ℕ → Instruction
-first_and_rest a others r = if eqb r 0 then a else others
+first_and_rest a others r = when eqb r 0 then a else others
 
 unfoldable pub rest_and_last : Instruction → Instruction → ℕ → Instruction
-rest_and_last others d r = if eqb r 3 then d else others
+rest_and_last others d r = when eqb r 3 then d else others
 
 -- the 64 classes, in the order of their codes: each gives the instruction by the last two bits
 abbrev pub classes : List (ℕ → Instruction)

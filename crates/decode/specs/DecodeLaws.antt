@@ -2,7 +2,7 @@
 use Rattle.std.specs.Prelude.{[], ◌∷◌, ◌≡◌, refl, ℕ, ◌<◌, ◌/◌, ltb}
 use Rattle.std.proofs.Common.{arith}
 use Rattle.alu.specs.declared.alu.Operation.TheVariants.{Lod}
-use Rattle.common.specs.Choice.{if◌then◌else◌}
+use Rattle.common.specs.Choice.{when◌then◌else◌}
 use Rattle.common.specs.Ordering.{inserted_by, ordered_below}
 use Rattle.common.specs.TestLaws.{OneTo}
 use Rattle.decode.specs.Decode.{each_of_four, first_and_rest, rest_and_last, decode_of, is_unknown, mode_length, branch_mode_length, instruction_length}
@@ -18,7 +18,7 @@ use Rattle.decode.specs.declared.decode.BranchMode.TheVariants as branch
 pub unknown_codes :
     ordered_below ltb (λ op. is_unknown (decode_of op)) 256
     ≡ 0x10 ∷ 0x11 ∷ 0x90 ∷ 0x91 ∷ 0xB6 ∷ 0xB7 ∷ 0xC4 ∷ 0xC5 ∷ 0xC6 ∷ 0xC7 ∷ []
-unfolding ordered_below inserted_by if◌then◌else◌ is_unknown decode_of each_of_four first_and_rest rest_and_last
+unfolding ordered_below inserted_by when◌then◌else◌ is_unknown decode_of each_of_four first_and_rest rest_and_last
 unknown_codes = refl
 
 -- codes 00 to 03 are LODZ. The last two bits name the register that is loaded into R0: for 00, document 02's filler, it is R0 itself

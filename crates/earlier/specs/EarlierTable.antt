@@ -1,7 +1,7 @@
 -- Definitions that must be believed: the bytes of a table as some version kept them, and the same table in today's form. Hosts keep tables
 -- for years, and a request that stores more in a table gives it another length.
 use Rattle.std.specs.Prelude.{Bool, ◌&&◌, not, List, [], ◌∷◌, ℕ, ◌+◌, ◌*◌, eqb, leb, length, take, drop}
-use Rattle.common.specs.Choice.{if◌then◌else◌}
+use Rattle.common.specs.Choice.{when◌then◌else◌}
 use Rattle.common.specs.Refusals.{◌gives◌, unless}
 use Rattle.common.specs.Tests.{all_below}
 use Rattle.encoding.specs.TableEncoding.{slots_offset, table_length, slot_from_bytes, table_from_bytes}
@@ -64,15 +64,15 @@ uncounted_table_from_bytes bytes = record { size = u32_at bytes 0; free = 0; wid
 -- the table that bytes of some version hold. Their length tells the version; any other length is read as today's
 unfoldable pub held_table : List ℕ → Table
 held_table old =
-    if eqb (length old) uncounted_table_length then uncounted_table_from_bytes old
-    else (if eqb (length old) unlocked_table_length then unlocked_table_from_bytes old else table_from_bytes old)
+    when eqb (length old) uncounted_table_length then uncounted_table_from_bytes old
+    else (when eqb (length old) unlocked_table_length then unlocked_table_from_bytes old else table_from_bytes old)
 
 -- the length is some version's, and the table is sound by the rules of that version. Before U6 no status was above 7; before U5 there were
 -- only the rules of the slots
 unfoldable pub held_table_sound : List ℕ → Bool
 held_table_sound old =
-    if eqb (length old) uncounted_table_length then statuses_up_to last_unlocked_status (held_table old) && slots_sound (held_table old)
-    else (if eqb (length old) unlocked_table_length then statuses_up_to last_unlocked_status (held_table old) && table_sound (held_table old)
+    when eqb (length old) uncounted_table_length then statuses_up_to last_unlocked_status (held_table old) && slots_sound (held_table old)
+    else (when eqb (length old) unlocked_table_length then statuses_up_to last_unlocked_status (held_table old) && table_sound (held_table old)
     else eqb (length old) table_length && table_sound (held_table old))
 
 -- that table in today's form: its free bytes are counted. It is refused by 1 if it is not sound

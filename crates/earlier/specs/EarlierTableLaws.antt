@@ -2,7 +2,7 @@
 use Rattle.std.specs.Prelude.{Bool, true, false, ◌&&◌, List, [], ◌∷◌, ◌++◌, ◌≢◌, ◌≡◌, refl, ℕ, ◌+◌, ◌*◌, ◌≤◌, ◌<◌, eqb, length, get_or, take, drop}
 use Rattle.std.proofs.Common.{sym, ap, ◌∙◌, arith, get_or-append-add, length-take-le}
 use borrow.Author.Tests.{eqb-true, eq-eqb, ne_eqb}
-use Rattle.common.specs.Choice.{if◌then◌else◌}
+use Rattle.common.specs.Choice.{when◌then◌else◌}
 use Rattle.common.specs.ConditionDefinitions.{condition_definitions}
 use Rattle.common.specs.TestLaws.{and_fact}
 use Rattle.earlier.specs.EarlierTable.{unlocked_slot_length, lock_offset, with_no_lock, unlocked_slots_from_bytes, unlocked_table_length, unlocked_table_from_bytes, last_unlocked_status, statuses_up_to, uncounted_slots_offset, uncounted_table_length, uncounted_table_from_bytes, held_table, held_table_sound, upgrade_of}
@@ -25,27 +25,27 @@ use Rattle.table.specs.declared.table.Table.{Table}
 
 -- it has the lengths of its type
 pub held_shaped : (old : List ℕ) → TableShaped (held_table old)
-unfolding held_table uncounted_table_from_bytes unlocked_table_from_bytes if◌then◌else◌
+unfolding held_table uncounted_table_from_bytes unlocked_table_from_bytes when◌then◌else◌
 held_shaped old = go (eqb (length old) uncounted_table_length) (eqb (length old) unlocked_table_length)
   where
     earlier : ℕ → ℕ → List ℕ
     earlier at k = with_no_lock (part_of old (at + unlocked_slot_length * k) unlocked_slot_length)
 
-    go : (a b : Bool) → TableShaped (if a then uncounted_table_from_bytes old else (if b then unlocked_table_from_bytes old else table_from_bytes old))
+    go : (a b : Bool) → TableShaped (when a then uncounted_table_from_bytes old else (when b then unlocked_table_from_bytes old else table_from_bytes old))
     go true b = record { eight = refl; all = slots_shaped 8 (earlier uncounted_slots_offset) }
     go false true = record { eight = refl; all = slots_shaped 8 (earlier slots_offset) }
     go false false = table_shaped old
 
 -- its slots are sound, whatever the version
 pub held_slots : (old : List ℕ) → held_table_sound old ≡ true → slots_sound (held_table old) ≡ true
-unfolding held_table_sound if◌then◌else◌
+unfolding held_table_sound when◌then◌else◌
 held_slots old = go (eqb (length old) uncounted_table_length) (eqb (length old) unlocked_table_length) (held_table old)
   where
     of_table : (t : Table) → table_sound t ≡ true → slots_sound t ≡ true
     of_table t h = slots_test t (table_fact t h).slots
 
     go : (a b : Bool) (t : Table)
-        → (if a then statuses_up_to last_unlocked_status t && slots_sound t else (if b then statuses_up_to last_unlocked_status t && table_sound t else eqb (length old) table_length && table_sound t)) ≡ true
+        → (when a then statuses_up_to last_unlocked_status t && slots_sound t else (when b then statuses_up_to last_unlocked_status t && table_sound t else eqb (length old) table_length && table_sound t)) ≡ true
         → slots_sound t ≡ true
     go true b t h = (and_fact (statuses_up_to last_unlocked_status t) (slots_sound t) h).1
     go false true t h = of_table t (and_fact (statuses_up_to last_unlocked_status t) (table_sound t) h).1
@@ -57,30 +57,30 @@ held_slots old = go (eqb (length old) uncounted_table_length) (eqb (length old) 
 module _ (old : List ℕ) where
   module _ (uncounted : length old ≡ uncounted_table_length) where
     pub uncounted_held : uncounted_table_from_bytes old ≡ held_table old
-    unfolding held_table if◌then◌else◌
+    unfolding held_table when◌then◌else◌
     uncounted_held = rw (eq-eqb (length old) uncounted_table_length uncounted)
 
     pub uncounted_sound : held_table_sound old ≡ (statuses_up_to last_unlocked_status (held_table old) && slots_sound (held_table old))
-    unfolding held_table_sound if◌then◌else◌
+    unfolding held_table_sound when◌then◌else◌
     uncounted_sound = rw (eq-eqb (length old) uncounted_table_length uncounted)
 
   module _ (counted_since : length old ≢ uncounted_table_length) where
     module _ (unlocked : length old ≡ unlocked_table_length) where
       pub unlocked_held : unlocked_table_from_bytes old ≡ held_table old
-      unfolding held_table if◌then◌else◌
+      unfolding held_table when◌then◌else◌
       unlocked_held = rw (ne_eqb (length old) uncounted_table_length counted_since, eq-eqb (length old) unlocked_table_length unlocked)
 
       pub unlocked_sound : held_table_sound old ≡ (statuses_up_to last_unlocked_status (held_table old) && table_sound (held_table old))
-      unfolding held_table_sound if◌then◌else◌
+      unfolding held_table_sound when◌then◌else◌
       unlocked_sound = rw (ne_eqb (length old) uncounted_table_length counted_since, eq-eqb (length old) unlocked_table_length unlocked)
 
     module _ (locked_since : length old ≢ unlocked_table_length) where
       pub today_held : table_from_bytes old ≡ held_table old
-      unfolding held_table if◌then◌else◌
+      unfolding held_table when◌then◌else◌
       today_held = rw (ne_eqb (length old) uncounted_table_length counted_since, ne_eqb (length old) unlocked_table_length locked_since)
 
       pub today_sound : held_table_sound old ≡ (eqb (length old) table_length && table_sound (held_table old))
-      unfolding held_table_sound if◌then◌else◌
+      unfolding held_table_sound when◌then◌else◌
       today_sound = rw (ne_eqb (length old) uncounted_table_length counted_since, ne_eqb (length old) unlocked_table_length locked_since)
 
 -- ---- an earlier version's slots lock nothing
@@ -112,14 +112,14 @@ unlocked_slots old at whole =
     (λ k q. no_lock (own k) (omega (arith, own_length k q)))
 
 pub held_unlocked : (old : List ℕ) → held_table_sound old ≡ true → length old ≢ table_length → (k : ℕ) → (slot_at (held_table old) k).partition.layout.locked ≡ 0
-unfolding held_table_sound held_table uncounted_table_from_bytes unlocked_table_from_bytes slot_at if◌then◌else◌
+unfolding held_table_sound held_table uncounted_table_from_bytes unlocked_table_from_bytes slot_at when◌then◌else◌
 held_unlocked old h other k = go (eqb (length old) uncounted_table_length) (eqb (length old) unlocked_table_length) refl refl h
   where
     held : Bool → Bool → Table
-    held a b = if a then uncounted_table_from_bytes old else (if b then unlocked_table_from_bytes old else table_from_bytes old)
+    held a b = when a then uncounted_table_from_bytes old else (when b then unlocked_table_from_bytes old else table_from_bytes old)
 
     go : (a b : Bool) → eqb (length old) uncounted_table_length ≡ a → eqb (length old) unlocked_table_length ≡ b
-        → (if a then statuses_up_to last_unlocked_status (held a b) && slots_sound (held a b) else (if b then statuses_up_to last_unlocked_status (held a b) && table_sound (held a b) else eqb (length old) table_length && table_sound (held a b))) ≡ true
+        → (when a then statuses_up_to last_unlocked_status (held a b) && slots_sound (held a b) else (when b then statuses_up_to last_unlocked_status (held a b) && table_sound (held a b) else eqb (length old) table_length && table_sound (held a b))) ≡ true
         → (get_or (held a b).slots k no_slot).partition.layout.locked ≡ 0
     go true b p q s = unlocked_slots old uncounted_slots_offset (sym (eqb-true (length old) uncounted_table_length p)) k
     go false true p q s = unlocked_slots old slots_offset (sym (eqb-true (length old) unlocked_table_length q)) k

@@ -12,7 +12,7 @@
 --       12  quantum (one byte)
 --       13  the state (StateEncoding)
 use Rattle.std.specs.Prelude.{List, [], ◌∷◌, ◌++◌, map, ℕ, ◌+◌, ◌*◌, eqb, get_or, drop, length}
-use Rattle.common.specs.Choice.{if◌then◌else◌}
+use Rattle.common.specs.Choice.{when◌then◌else◌}
 use Rattle.slices.specs.Numbers.{u16_bytes, u32_bytes, u16_at, u32_at}
 use Rattle.slices.specs.Slices.{part_of, concat, tabulate}
 use Rattle.table.specs.declared.table.Partition.{Partition}
@@ -60,7 +60,7 @@ table_bytes t = head_bytes t ++ concat (map slot_bytes t.slots)
 
 -- a buffer of a table's length with a table stored in it; one of another length is left
 unfoldable pub stored_table : List ℕ → Table → List ℕ
-stored_table buffer t = if eqb (length buffer) table_length then table_bytes t else buffer
+stored_table buffer t = when eqb (length buffer) table_length then table_bytes t else buffer
 
 -- ---- from bytes to the table that they hold
 

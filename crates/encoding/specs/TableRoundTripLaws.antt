@@ -2,7 +2,7 @@
 -- has exactly one form as bytes.
 use Rattle.std.specs.Prelude.{List, [], ◌∷◌, ◌++◌, map, ◌≡◌, refl, ℕ, zero, suc, ◌+◌, ◌*◌, ◌≤◌, length, take, drop}
 use Rattle.std.proofs.Common.{sym, ap, ◌∙◌, arith, eq-eqb, length-append, length-drop, take-append-drop, take_at, drop_at, drop-drop, length-take-le}
-use Rattle.common.specs.Choice.{if◌then◌else◌}
+use Rattle.common.specs.Choice.{when◌then◌else◌}
 use Rattle.slices.specs.SliceLaws.{bytes_take, bytes_drop}
 use Rattle.slices.specs.Numbers.{u32_bytes, u32_at}
 use Rattle.slices.specs.NumberLaws.{u16_decoded, u32_decoded, u16_encoded, u32_encoded}
@@ -149,7 +149,7 @@ table_head_length t = refl
 
 -- what is stored in a buffer of a table's length
 pub stored_whole : (buffer : List ℕ) (t : Table) → length buffer ≡ table_length → stored_table buffer t ≡ table_bytes t
-unfolding stored_table if◌then◌else◌
+unfolding stored_table when◌then◌else◌
 stored_whole buffer t e = rw (eq-eqb _ _ e)
 
 pub table_length_law : (t : Table) → TableShaped t → length (table_bytes t) ≡ table_length

@@ -8,7 +8,7 @@ use native.Mathlib.Omega.{arith}
 use borrow.Author.Tests.{eq-eqb, ne_eqb, eqb-true, lt-ltb, le-ltb}
 use lib.Dec.{eqb}
 use lib.ListN.{length, drop}
-use Rattle.common.specs.Choice.{if◌then◌else◌}
+use Rattle.common.specs.Choice.{when◌then◌else◌}
 use Rattle.common.specs.declared.places.Location.{Location}
 use Rattle.slices.specs.SliceLaws.{copied_front}
 use Rattle.slices.specs.Slices.{copied}
@@ -28,7 +28,7 @@ use Rattle.common.specs.ConditionDefinitions.{condition_definitions}
 -- ---- calls with a table and a memory
 
 pub other_length : (count : ℕ) (c : Call) (table memory : List ℕ) (a : ℕ) → (length table ≡ table_length → ⊥) → a ≡ answer_of 1 0 → host_outcome a table memory ≡ host_outcome_of c count (host_buffers table memory)
-unfolding host_outcome_of host_after_call if◌then◌else◌
+unfolding host_outcome_of host_after_call when◌then◌else◌
 other_length count c table memory a h e = rw (ne_eqb (length table) table_length h, e)
 
 module _ (c : Call) (table memory : List ℕ) (before : Table) (n : ℕ) (after : Table) (left : List ℕ) (whole : length table ≡ table_length) (decoded : before ≡ table_from_bytes table)
@@ -49,7 +49,7 @@ module _ (c : Call) (table memory : List ℕ) (before : Table) (n : ℕ) (after 
   memory_after_law = ap (λ (o : Outcome). o.after.memory) call_made
 
   pub call_stored : (count : ℕ) {given : ℕ} (a : ℕ) (b : List ℕ) → count ≡ given → a ≡ answer_of n count → b ≡ table_bytes_after n after table → host_outcome a b left ≡ host_outcome_of c given (host_buffers table memory)
-  unfolding host_outcome_of host_after_call if◌then◌else◌
+  unfolding host_outcome_of host_after_call when◌then◌else◌
   call_stored count a b few answer stored = rw (eq-eqb (length table) table_length whole, answer, stored, few, call_refusal, table_after, memory_after_law)
 
 -- ---- a load
@@ -73,10 +73,10 @@ drained_written_few x k room e =
 
 -- a count has two bytes
 pub drained_few : (x : System) (k room : ℕ) → drained_count x k room < 65536
-unfolding drained_count if◌then◌else◌
+unfolding drained_count when◌then◌else◌
 drained_few x k room = go (eqb (refusal (change k (drain room)) x) 0) refl
   where
-    go : (b : Bool) → eqb (refusal (change k (drain room)) x) 0 ≡ b → (if b then (slot_of x k).state.written else 0) < 65536
+    go : (b : Bool) → eqb (refusal (change k (drain room)) x) 0 ≡ b → (when b then (slot_of x k).state.written else 0) < 65536
     go true e = omega (arith, drained_written_few x k room (eqb-true (refusal (change k (drain room)) x) 0 e))
     go false e = omega arith
 
@@ -85,17 +85,17 @@ pub decoded_count : (table memory : List ℕ) (k room n : ℕ) (before : Table) 
 decoded_count table memory k room n before decoded e = e ∙ ap (λ (t : Table). drained_count (system t memory) k room) decoded
 
 pub buffer_left : (table memory : List ℕ) (k : ℕ) (buffer : List ℕ) → (length table ≡ table_length → ⊥) → buffer ≡ host_drained_buffer table memory k buffer
-unfolding host_drained_buffer if◌then◌else◌
+unfolding host_drained_buffer when◌then◌else◌
 buffer_left table memory k buffer h = rw (ne_eqb (length table) table_length h)
 
 pub buffer_drained : (table memory : List ℕ) (k : ℕ) (buffer b : List ℕ) (before : Table) → length table ≡ table_length → before ≡ table_from_bytes table → b ≡ drained_buffer (system before memory) k buffer → b ≡ host_drained_buffer table memory k buffer
-unfolding host_drained_buffer if◌then◌else◌
+unfolding host_drained_buffer when◌then◌else◌
 buffer_drained table memory k buffer b before whole decoded e = rw (eq-eqb (length table) table_length whole, e, decoded)
 
 -- ---- a report
 
-either_refusal : (b : Bool) (n : ℕ) (x y : Report) → (b ≡ true → x.refusal ≡ n) → y.refusal ≡ n → ◌≡◌ {A = ℕ} (if b then x else y).refusal n
-unfolding if◌then◌else◌
+either_refusal : (b : Bool) (n : ℕ) (x y : Report) → (b ≡ true → x.refusal ≡ n) → y.refusal ≡ n → ◌≡◌ {A = ℕ} (when b then x else y).refusal n
+unfolding when◌then◌else◌
 either_refusal true n x y h k = h refl
 either_refusal false n x y h k = k
 
@@ -143,33 +143,33 @@ module _ (table : List ℕ) (k : ℕ) (buffer : List ℕ) where
 -- ---- a backlog
 
 pub backlog_other : (table buffer : List ℕ) (a : ℕ) → (length table ≡ table_length → ⊥) → a ≡ answer_of 1 0 → buffer_outcome a buffer ≡ host_backlog table buffer
-unfolding host_backlog if◌then◌else◌
+unfolding host_backlog when◌then◌else◌
 backlog_other table buffer a h e = rw (ne_eqb (length table) table_length h, e)
 
 pub backlog_made : (table buffer : List ℕ) (a n size : ℕ) (b : List ℕ) (before : Table) → length table ≡ table_length → before ≡ table_from_bytes table
     → backlog_outcome n size b ≡ backlog_of before buffer → a ≡ answer_of n size → buffer_outcome a b ≡ host_backlog table buffer
-unfolding host_backlog if◌then◌else◌
+unfolding host_backlog when◌then◌else◌
 backlog_made table buffer a n size b before whole decoded made answer =
     rw (eq-eqb (length table) table_length whole, answer) (ap buffer_outcome_of (made ∙ ap (λ (t : Table). backlog_of t buffer) decoded))
 
 -- ---- a fit
 
 pub fit_other : (table : List ℕ) (size a : ℕ) → (length table ≡ table_length → ⊥) → a ≡ answer_of 1 0 → a ≡ host_fit table size
-unfolding host_fit if◌then◌else◌
+unfolding host_fit when◌then◌else◌
 fit_other table size a h e = rw (ne_eqb (length table) table_length h) e
 
 pub fit_made : (table : List ℕ) (size a : ℕ) (before : Table) (found : FitAnswer) → length table ≡ table_length → before ≡ table_from_bytes table
     → found ≡ fit_of before size → a ≡ answer_of_fit found → a ≡ host_fit table size
-unfolding host_fit if◌then◌else◌
+unfolding host_fit when◌then◌else◌
 fit_made table size a before found whole decoded made answer =
     rw (eq-eqb (length table) table_length whole) (answer ∙ ap answer_of_fit (made ∙ ap (λ (t : Table). fit_of t size) decoded))
 
 -- ---- a new table
 
 pub new_other : (size : ℕ) (table : List ℕ) (a : ℕ) → (length table ≡ table_length → ⊥) → a ≡ answer_of 1 0 → buffer_outcome a table ≡ host_new size table
-unfolding host_new if◌then◌else◌
+unfolding host_new when◌then◌else◌
 new_other size table a h e = rw (ne_eqb (length table) table_length h, e)
 
 pub new_made : (size : ℕ) (table : List ℕ) (a n : ℕ) (t : Table) (b : List ℕ) → length table ≡ table_length → n ≡ new_refusal size → t ≡ new_table size → a ≡ answer_of n 0 → b ≡ table_bytes_after n t table → buffer_outcome a b ≡ host_new size table
-unfolding host_new if◌then◌else◌
+unfolding host_new when◌then◌else◌
 new_made size table a n t b whole call_refusal call_made answer stored = rw (eq-eqb (length table) table_length whole, answer, stored, call_refusal, call_made)

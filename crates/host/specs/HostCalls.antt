@@ -1,7 +1,7 @@
 -- Definitions that must be believed: what a host's calls answer, and what they leave in the buffers that the host lends. A table is its
 -- bytes (TableEncoding); what a call does to it is crate supervisor's `refusal` and `after_call`.
 use Rattle.std.specs.Prelude.{not, List, [], ◌∷◌, ◌++◌, ℕ, ◌+◌, ◌*◌, eqb, ltb, length, drop}
-use Rattle.common.specs.Choice.{if◌then◌else◌}
+use Rattle.common.specs.Choice.{when◌then◌else◌}
 use Rattle.common.specs.Refusals.{◌gives◌, refusal_by}
 use Rattle.queries.specs.Queries.{report, query_refusal, report_of, BacklogOutcome, backlog_of, fit_of}
 use Rattle.supervisor.specs.Calls.{Call, refusal, after_call, drained_buffer}
@@ -24,7 +24,7 @@ lent_system table memory = system (table_from_bytes table) memory
 
 -- the table's bytes after a call: those of the table that it came to, or left as they are by a refusal
 unfoldable pub table_bytes_after : ℕ → Table → List ℕ → List ℕ
-table_bytes_after refusal t bytes = if eqb refusal 0 then table_bytes t else bytes
+table_bytes_after refusal t bytes = when eqb refusal 0 then table_bytes t else bytes
 
 -- ---- a new table
 
@@ -39,7 +39,7 @@ buffer_outcome answer buffer = record { answer = answer; buffer = buffer }
 -- a refusal leaves the buffer: a host is given no all-zero table
 unfoldable pub host_new : ℕ → List ℕ → BufferOutcome
 host_new size table =
-    if eqb (length table) table_length
+    when eqb (length table) table_length
     then buffer_outcome (answer_of (new_refusal size) 0) (table_bytes_after (new_refusal size) (new_table size) table)
     else buffer_outcome (answer_of 1 0) table
 
@@ -61,7 +61,7 @@ system_of h = lent_system h.table h.memory
 -- a buffer of another length is no sound table: 1, and everything is left
 unfoldable pub host_after_call : Call → HostBuffers → HostBuffers
 host_after_call c h =
-    if eqb (length h.table) table_length
+    when eqb (length h.table) table_length
     then host_buffers (table_bytes_after (refusal c (system_of h)) (after_call c (system_of h)).table h.table) (after_call c (system_of h)).memory
     else h
 
@@ -77,13 +77,13 @@ host_outcome answer table memory = record { answer = answer; after = host_buffer
 unfoldable pub host_outcome_of : Call → ℕ → HostBuffers → HostOutcome
 host_outcome_of c count h =
     record {
-      answer = if eqb (length h.table) table_length then answer_of (refusal c (system_of h)) count else answer_of 1 0;
+      answer = when eqb (length h.table) table_length then answer_of (refusal c (system_of h)) count else answer_of 1 0;
       after = host_after_call c h;
     }
 
 -- the lent buffer after a drain
 unfoldable pub host_drained_buffer : List ℕ → List ℕ → ℕ → List ℕ → List ℕ
-host_drained_buffer table memory k buffer = if eqb (length table) table_length then drained_buffer (lent_system table memory) k buffer else buffer
+host_drained_buffer table memory k buffer = when eqb (length table) table_length then drained_buffer (lent_system table memory) k buffer else buffer
 
 -- ---- a report
 
@@ -109,7 +109,7 @@ unfoldable pub host_report : List ℕ → ℕ → List ℕ → BufferOutcome
 host_report table k buffer =
     buffer_outcome
     (answer_of (host_report_refusal table k (length buffer)) 0)
-    (if eqb (host_report_refusal table k (length buffer)) 0 then report_bytes (report_of (table_from_bytes table) k) ++ drop report_length buffer else buffer)
+    (when eqb (host_report_refusal table k (length buffer)) 0 then report_bytes (report_of (table_from_bytes table) k) ++ drop report_length buffer else buffer)
 
 -- ---- a backlog
 
@@ -120,7 +120,7 @@ buffer_outcome_of o = buffer_outcome (answer_of o.refusal o.size) o.buffer
 -- the backlog of the table that the bytes hold; bytes of another length are no sound table: 1, and the lent buffer is left
 unfoldable pub host_backlog : List ℕ → List ℕ → BufferOutcome
 host_backlog table buffer =
-    if eqb (length table) table_length then buffer_outcome_of (backlog_of (table_from_bytes table) buffer) else buffer_outcome (answer_of 1 0) buffer
+    when eqb (length table) table_length then buffer_outcome_of (backlog_of (table_from_bytes table) buffer) else buffer_outcome (answer_of 1 0) buffer
 
 -- ---- a fit
 
@@ -130,4 +130,4 @@ answer_of_fit a = answer_of a.refusal a.location.0
 
 -- the fit of the table that the bytes hold; bytes of another length are no sound table: 1
 unfoldable pub host_fit : List ℕ → ℕ → ℕ
-host_fit table size = if eqb (length table) table_length then answer_of_fit (fit_of (table_from_bytes table) size) else answer_of 1 0
+host_fit table size = when eqb (length table) table_length then answer_of_fit (fit_of (table_from_bytes table) size) else answer_of 1 0

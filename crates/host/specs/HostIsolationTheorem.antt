@@ -3,7 +3,7 @@
 use Rattle.std.specs.Prelude.{Bool, true, false, List, [], ◌∷◌, ◌≡◌, refl, ℕ, zero, suc, ◌<◌, eqb, length, get_or, set}
 use Rattle.std.proofs.Common.{sym, ap, ◌∙◌, arith, eq-eqb}
 use Rattle.std.proofs.Math.ListN.{length-set}
-use Rattle.common.specs.Choice.{if◌then◌else◌}
+use Rattle.common.specs.Choice.{when◌then◌else◌}
 use Rattle.common.specs.Repetition.{times}
 use Rattle.cpu.specs.MachineLaws.{times_shaped}
 use Rattle.supervisor.specs.Calls.{Change, load, unload, feed, drain, Call, change, run, query, refusal, patch_of, counted_after, after_accepted, after_call}
@@ -93,15 +93,15 @@ record HostHolds (h : HostBuffers) (y : System) : Type 0 where
 
 -- by whether the call is accepted
 call_holds : (c : Call) (h : HostBuffers) → length h.table ≡ table_length → HostHolds (host_after_call c h) (after_call c (system_of h))
-unfolding host_after_call table_bytes_after after_call if◌then◌else◌
+unfolding host_after_call table_bytes_after after_call when◌then◌else◌
 call_holds c h whole = rw (eq-eqb (length h.table) table_length whole) (go (eqb (refusal c (system_of h)) 0))
   where
     x : System
     x = system_of h
 
     go : (b : Bool)
-        → HostHolds (record { table = if b then table_bytes (if b then after_accepted c x else x).table else h.table; memory = (if b then after_accepted c x else x).memory })
-        (if b then after_accepted c x else x)
+        → HostHolds (record { table = when b then table_bytes (when b then after_accepted c x else x).table else h.table; memory = (when b then after_accepted c x else x).memory })
+        (when b then after_accepted c x else x)
     go true =
         let t = accepted_shaped c x (table_shaped h.table) in
         record { same = ap (λ (z : Table). system z (after_accepted c x).memory) (table_decoded (after_accepted c x).table t); whole = table_length_law (after_accepted c x).table t }

@@ -1,7 +1,7 @@
 -- Definitions that must be believed: what a host's calls on pattern files answer, and what they leave in the buffer that the host lends.
 -- Reading and writing are crate pattern's `read_of`, `code_body_of`, `input_body_of`, `write_of` and `written_buffer`.
 use Rattle.std.specs.Prelude.{List, ◌++◌, ℕ, ◌+◌, ◌*◌, eqb, ltb, length, drop}
-use Rattle.common.specs.Choice.{if◌then◌else◌}
+use Rattle.common.specs.Choice.{when◌then◌else◌}
 use Rattle.pattern.specs.Reader.{read_of, if_accepted, code_body_of, input_body_of, code_offset, input_offset}
 use Rattle.pattern.specs.Parameters.{parameters_bytes, parameters_bytes_length, parameters_from_bytes}
 use Rattle.pattern.specs.Writer.{write_of, written_buffer}
@@ -18,7 +18,7 @@ use Rattle.host.specs.HostCalls.{answer_of, BufferOutcome, buffer_outcome}
 unfoldable pub host_read : ReadResult → List ℕ → BufferOutcome
 host_read (Refused n) buffer = buffer_outcome (answer_of n 0) buffer
 host_read (Accepted p) buffer =
-    if ltb (length buffer) parameters_bytes_length
+    when ltb (length buffer) parameters_bytes_length
     then buffer_outcome (answer_of 16 0) buffer
     else buffer_outcome (answer_of 0 0) (parameters_bytes p ++ drop parameters_bytes_length buffer)
 
@@ -43,6 +43,6 @@ written_answer (written.Refused n) = answer_of n 0
 -- the parameters come as these bytes; another length is out of range
 unfoldable pub host_write : List ℕ → List ℕ → List ℕ → List ℕ → BufferOutcome
 host_write parameters image input buffer =
-    if eqb (length parameters) parameters_bytes_length
+    when eqb (length parameters) parameters_bytes_length
     then buffer_outcome (written_answer (write_of (parameters_from_bytes parameters) image input (length buffer))) (written_buffer (parameters_from_bytes parameters) image input buffer)
     else buffer_outcome (answer_of 9 0) buffer

@@ -3,7 +3,7 @@ use Rattle.std.specs.Prelude.{Bool, ◌&&◌, List, ◌++◌, ◌≢◌, ◌≡�
 use Rattle.std.proofs.Math.Bool.{true, false}
 use Rattle.std.proofs.Math.Path.{refl}
 use Rattle.std.proofs.Common.{sym, ap, ◌∙◌, arith, eq-eqb, eqb-true, le-leb}
-use Rattle.common.specs.Choice.{if◌then◌else◌}
+use Rattle.common.specs.Choice.{when◌then◌else◌}
 use Rattle.common.specs.TestLaws.{and_true, or_left, or_right}
 use Rattle.common.specs.Ranges.{is_one_to}
 use Rattle.common.specs.Tests.{and_all, all_below}
@@ -72,7 +72,7 @@ not_alone s memory buffer t e h {n} one =
     rw (own, one)
 
 pub new_table_law : (n : ℕ) → new_refusal n ≡ 0 → new_table n ≡ empty_table n
-unfolding new_table if◌then◌else◌
+unfolding new_table when◌then◌else◌
 new_table_law n e = rw e
 
 -- what draining at slot 0 answers and leaves is what draining the slot does
@@ -86,17 +86,17 @@ module _ (s : Slot) (memory buffer : List ℕ) where
   alone_by_test :
       (t : ℕ) (b : Bool) → eqb t 0 ≡ b
       → drain_lent_outcome
-      (record { refusal = t; count = if b then s.state.written else 0 })
-      (slot_at (if b then patched alone_system 0 (drain_patch (slot_at alone_system.table 0)) else alone_system).table 0)
-      (if b then written_bytes (slot_at alone_system.table 0) alone_system.memory ++ drop s.state.written buffer else buffer)
-      ≡ (if b
+      (record { refusal = t; count = when b then s.state.written else 0 })
+      (slot_at (when b then patched alone_system 0 (drain_patch (slot_at alone_system.table 0)) else alone_system).table 0)
+      (when b then written_bytes (slot_at alone_system.table 0) alone_system.memory ++ drop s.state.written buffer else buffer)
+      ≡ (when b
       then
       drain_lent_outcome
       (record { refusal = 0; count = s.state.written })
       (slot_with_state s (drained_state s.state))
       (written_bytes s memory ++ drop s.state.written buffer)
       else drain_lent_outcome (record { refusal = t; count = 0 }) s buffer)
-  unfolding patched drain_patch with_slot slot_at if◌then◌else◌
+  unfolding patched drain_patch with_slot slot_at when◌then◌else◌
   alone_by_test t true e = rw (eqb-true t 0 e)
   alone_by_test t false e = refl
 

@@ -1,7 +1,7 @@
 -- Definitions that must be believed: draining over one slot that is lent with its memory and a buffer (document 01, "Floor and bays":
 -- collecting over one station's record).
 use Rattle.std.specs.Prelude.{not, ◌&&◌, List, [], ◌∷◌, ◌++◌, ℕ, eqb, length, drop}
-use Rattle.common.specs.Choice.{if◌then◌else◌}
+use Rattle.common.specs.Choice.{when◌then◌else◌}
 use Rattle.common.specs.Refusals.{◌gives◌, refusal_by}
 use Rattle.common.specs.Ranges.{is_one_to}
 use Rattle.supervisor.specs.Draining.{drain_conditions, drained_state, written_bytes}
@@ -32,7 +32,7 @@ drain_lent_outcome d s buffer = drain_slot_outcome (record { drained = d; slot =
 -- a refusal leaves everything; else it does what draining does
 unfoldable pub drain_slot_of : Slot → List ℕ → List ℕ → DrainSlotOutcome
 drain_slot_of s memory buffer =
-    if eqb (drain_slot_refusal s (length memory) (length buffer)) 0
+    when eqb (drain_slot_refusal s (length memory) (length buffer)) 0
     then
     drain_lent_outcome
     (record { refusal = 0; count = s.state.written })

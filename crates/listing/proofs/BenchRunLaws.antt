@@ -6,7 +6,7 @@ use Prim.Native.Nat.{ℕ, ◌+◌, ◌*◌, ◌≤◌, ◌<◌}
 use native.Mathlib.Omega.{arith}
 use borrow.Author.Tests.{lt-ltb, le-ltb, ne_eqb, eq-eqb}
 use lib.ListN.{length, take, drop}
-use Rattle.common.specs.Choice.{if◌then◌else◌}
+use Rattle.common.specs.Choice.{when◌then◌else◌}
 use Rattle.queries.specs.Queries.{report_of}
 use Rattle.supervisor.specs.Calls.{refusal, after_call, outcome_of, drained_count, drained_buffer}
 use Rattle.system.specs.System.{Outcome, outcome, System, system, slot_of}
@@ -78,7 +78,7 @@ module _ (file memory : List ℕ) where
   -- the answer and both lent slices where the file is refused, and where it is not
   refused_text : (k n : ℕ) (t₀ t : List ℕ) → file_refusal file memory ≡ k → (k ≡ 0 → ⊥) → (n ≡ length (refused_line k)) × (t ≡ refused_line k ++ drop n t₀)
       → (n ≡ length (text_of file memory)) × ((memory ≡ memory_after file memory) × (t ≡ text_of file memory ++ drop n t₀))
-  unfolding text_of memory_after if◌then◌else◌
+  unfolding text_of memory_after when◌then◌else◌
   refused_text k n t₀ t e some h = rw (e, ne_eqb k 0 some) (h.0, (refl, h.1))
 
   pub long_text : (n : ℕ) (t₀ t : List ℕ) → 36897 < length file → (n ≡ length (refused_line 6)) × (t ≡ refused_line 6 ++ drop n t₀)
@@ -100,7 +100,7 @@ module _ (file memory : List ℕ) where
 
     pub refused_load : (n : ℕ) (t₀ t : List ℕ) → (k ≡ 0 → ⊥) → (n ≡ length (refused_line k)) × (t ≡ refused_line k ++ drop n t₀)
         → (n ≡ length (text_of file memory)) × ((m₂ ≡ memory_after file memory) × (t ≡ text_of file memory ++ drop n t₀))
-    unfolding after_call if◌then◌else◌
+    unfolding after_call when◌then◌else◌
     refused_load n t₀ t some e =
         let z : refusal (load_call file) (new_system memory) ≡ 0 → ⊥ = λ h. some (load_refusal ∙ h) in
         let kept : m₂ ≡ memory = ap (λ (x : System). x.memory) load_after ∙ rw (ne_eqb (refusal (load_call file) (new_system memory)) 0 z) in
@@ -123,6 +123,6 @@ module _ (file memory : List ℕ) where
 
       pub after_bench_rounds_text : (n : ℕ) (t₀ t : List ℕ) → (n ≡ length (lines_after (system t₃ m₃))) × (t ≡ lines_after (system t₃ m₃) ++ drop n t₀)
           → (n ≡ length (text_of file memory)) × ((m₃ ≡ memory_after file memory) × (t ≡ text_of file memory ++ drop n t₀))
-      unfolding text_of memory_after if◌then◌else◌
+      unfolding text_of memory_after when◌then◌else◌
       after_bench_rounds_text n t₀ t e =
           rw (short_accepted short (sym load_refusal ∙ none), ← end_after_bench_rounds) (e.0, (refl, e.1))

@@ -1,7 +1,7 @@
 -- Definitions that must be believed: the bench run, from a pattern file to its text (document 01, "The bench run").
 use Rattle.std.specs.Prelude.{not, List, [], ◌∷◌, ◌++◌, ℕ, ◌+◌, ◌*◌, eqb, ltb, length, drop}
 use Rattle.common.specs.Refusals.{◌gives◌, unless, refusal_by}
-use Rattle.common.specs.Choice.{if◌then◌else◌}
+use Rattle.common.specs.Choice.{when◌then◌else◌}
 use Rattle.queries.specs.Queries.{report_of}
 use Rattle.supervisor.specs.Calls.{Call, change, load, refusal, after_call}
 use Rattle.system.specs.System.{System, system, slot_of}
@@ -37,11 +37,11 @@ lines_after x = lines_of (report_of x.table 0) (written_bytes (slot_of x 0) x.me
 -- the text: the two lines, or the one of a refused file
 unfoldable pub text_of : List ℕ → List ℕ → List ℕ
 text_of file memory =
-    if eqb (file_refusal file memory) 0 then lines_after (after_bench_rounds file memory) else refused_line (file_refusal file memory)
+    when eqb (file_refusal file memory) 0 then lines_after (after_bench_rounds file memory) else refused_line (file_refusal file memory)
 
 -- the memory afterwards: as the rounds leave it, since a drain changes no byte of it; as it was where the file is refused
 unfoldable pub memory_after : List ℕ → List ℕ → List ℕ
-memory_after file memory = if eqb (file_refusal file memory) 0 then (after_bench_rounds file memory).memory else memory
+memory_after file memory = when eqb (file_refusal file memory) 0 then (after_bench_rounds file memory).memory else memory
 
 -- the length of the longest text, 12,326: the first line with its newline, `out`, 4,096 bytes of output as fields, a newline
 abbrev pub longest_text : ℕ

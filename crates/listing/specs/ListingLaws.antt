@@ -3,7 +3,7 @@ use Rattle.std.specs.Prelude.{Bool, true, false, ◌&&◌, List, ◌≡◌, refl
 use Rattle.std.proofs.lemmas.Bool.{false≢true}
 use Rattle.std.proofs.Common.{sym, ap, ◌∙◌, arith, take_at}
 use borrow.Author.Tests.{eq-eqb, le-ltb, lt-ltb, ltb-true}
-use Rattle.common.specs.Choice.{if◌then◌else◌}
+use Rattle.common.specs.Choice.{when◌then◌else◌}
 use Rattle.common.specs.TestLaws.{and_fact}
 use Rattle.loader.specs.Fresh.{fresh_state}
 use Rattle.slices.specs.SliceLaws.{part_length}
@@ -37,7 +37,7 @@ fresh_sound memory h = record { table = table_fact (new_table 40960) refl; fits 
 
 -- an accepted load
 pub load_after_accepted : (file : List ℕ) (x : System) → refusal (load_call file) x ≡ 0 → after_call (load_call file) x ≡ after_change 0 (load (record { 0 = 0 }) file) x
-unfolding after_call after_accepted if◌then◌else◌
+unfolding after_call after_accepted when◌then◌else◌
 load_after_accepted file x e = rw (eq-eqb (refusal (load_call file) x) 0 e)
 
 load_slot : (file : List ℕ) (x : System) → SoundSystem x → is_empty (slot_of (after_change 0 (load (record { 0 = 0 }) file) x) 0) ≡ false
@@ -52,7 +52,7 @@ load_ready file x g e =
 -- ---- single rounds
 
 pub round_after_accepted : (x : System) → SoundSystem x → after_call (run 1) x ≡ after_run 1 x
-unfolding after_call after_accepted if◌then◌else◌
+unfolding after_call after_accepted when◌then◌else◌
 round_after_accepted x g = rw (eq-eqb (refusal (run 1) x) 0 (run_accepted x g 1))
 
 pub round_ready : (x : System) → ReadySlot x 0 → ReadySlot (after_call (run 1) x) 0
@@ -62,16 +62,16 @@ round_ready x r =
 
 -- what holds of a system and after each single round holds in the end
 pub until_keeps : (P : System → Type 0) → ((x : System) → P x → P (after_call (run 1) x)) → (n : ℕ) (x : System) → P x → P (until_stopped n x)
-unfolding until_stopped if◌then◌else◌
+unfolding until_stopped when◌then◌else◌
 until_keeps P step zero x p = p
 until_keeps P step (suc n) x p = go (eqb (slot_of x 0).state.status 1) (until_keeps P step n (after_call (run 1) x) (step x p))
   where
-    go : (b : Bool) → P (until_stopped n (after_call (run 1) x)) → P (if b then until_stopped n (after_call (run 1) x) else x)
+    go : (b : Bool) → P (until_stopped n (after_call (run 1) x)) → P (when b then until_stopped n (after_call (run 1) x) else x)
     go true q = q
     go false q = p
 
 pub until_more : (n : ℕ) (x : System) {b : Bool} → b ≡ eqb (slot_of x 0).state.status 1 → (ltb 0 n && b) ≡ true → until_stopped n x ≡ until_stopped (n - 1) (after_call (run 1) x)
-unfolding until_stopped if◌then◌else◌
+unfolding until_stopped when◌then◌else◌
 until_more zero x e h = absurd (false≢true h)
 until_more (suc n) x {b} e h =
     let s : eqb (slot_of x 0).state.status 1 ≡ true = sym e ∙ (and_fact (ltb 0 (suc n)) b h).1 in
@@ -82,7 +82,7 @@ pub rounds_left : (n : ℕ) (b : Bool) → (ltb 0 n && b) ≡ true → 0 < n
 rounds_left n b h = ltb-true 0 n (and_fact (ltb 0 n) b h).0
 
 pub until_done : (n : ℕ) (x : System) {b : Bool} → b ≡ eqb (slot_of x 0).state.status 1 → (ltb 0 n && b) ≡ false → until_stopped n x ≡ x
-unfolding until_stopped if◌then◌else◌
+unfolding until_stopped when◌then◌else◌
 until_done zero x e h = refl
 until_done (suc n) x {b} e h =
     let s : eqb (slot_of x 0).state.status 1 ≡ false = sym e ∙ (rw (lt-ltb 0 (suc n) (omega arith)) at h) in
@@ -101,7 +101,7 @@ module _ (x : System) (r : ReadySlot x 0) where
 
   -- the status has one digit
   pub status_low : (report_of x.table 0).status < 10
-  unfolding report_of if◌then◌else◌
+  unfolding report_of when◌then◌else◌
   status_low = rw (report_accepted) (let h = r.holds.loaded.state.status.fits in omega arith)
 
   pub output_few : (slot_of x 0).state.written ≤ 4096
@@ -121,12 +121,12 @@ module _ (x : System) (r : ReadySlot x 0) where
       simp (table_test x.table r.system.table, eq-eqb (length x.memory) x.table.size r.system.fits, slot_loaded x r, le-ltb room (slot_of x 0).state.written few)
 
   pub output_drain_count : (room : ℕ) → 4096 ≤ room → drained_count x 0 room ≡ (slot_of x 0).state.written
-  unfolding drained_count if◌then◌else◌
+  unfolding drained_count when◌then◌else◌
   output_drain_count room h = rw (output_drain_accepted room h)
 
   -- what is drained is the front of the buffer
   pub drained_front : (buffer : List ℕ) → 4096 ≤ length buffer → take (drained_count x 0 (length buffer)) (drained_buffer x 0 buffer) ≡ written_bytes (slot_of x 0) x.memory
-  unfolding drained_buffer if◌then◌else◌
+  unfolding drained_buffer when◌then◌else◌
   drained_front buffer h =
       rw (output_drain_count (length buffer) h, output_drain_accepted (length buffer) h)
       (take_at (written_bytes (slot_of x 0) x.memory) (drop (slot_of x 0).state.written buffer) (slot_of x 0).state.written output_length)

@@ -2,7 +2,7 @@
 use Rattle.std.specs.Prelude.{Bool, true, false, List, [], ◌∷◌, ◌≡◌, refl, ℕ, zero, suc, ◌+◌, ◌*◌, ◌≤◌, eqb, length, take, drop}
 use Rattle.std.proofs.Common.{sym, ap, ◌∙◌, arith, eqb-true, drop-drop, take-take}
 use Rattle.std.proofs.lemmas.Bool.{not-false}
-use Rattle.common.specs.Choice.{if◌then◌else◌}
+use Rattle.common.specs.Choice.{when◌then◌else◌}
 use Rattle.common.specs.Layout.{layout_size}
 use Rattle.common.specs.RefusalLaws.{given_numbered, none_holds}
 use Rattle.common.specs.Repetition.{times}
@@ -36,7 +36,7 @@ use Rattle.listing.specs.Text.{lines_of}
 -- quanta of q steps until the status is not 1 or n are made
 unfoldable pub lone_until : ℕ → ℕ → Machine → Machine
 lone_until zero q m = m
-lone_until (suc n) q m = if eqb m.state.status 1 then lone_until n q (times q machine_step m) else m
+lone_until (suc n) q m = when eqb m.state.status 1 then lone_until n q (times q machine_step m) else m
 
 unfoldable pub lone_report : Machine → Report
 lone_report m =
@@ -68,15 +68,15 @@ unfolding machine_in
 same_status x = refl
 
 until_machine : (n : ℕ) (x : System) → ReadySlot x 0 → slot_machine 0 (until_stopped n x) ≡ lone_until n (slot_of x 0).partition.quantum (slot_machine 0 x)
-unfolding until_stopped lone_until if◌then◌else◌
+unfolding until_stopped lone_until when◌then◌else◌
 until_machine zero x r = refl
 until_machine (suc n) x r =
     go (eqb (slot_of x 0).state.status 1) (same_status x) (until_machine n (after_call (run 1) x) (round_ready x r))
   where
     go : (b : Bool) → eqb (slot_machine 0 x).state.status 1 ≡ b
         → slot_machine 0 (until_stopped n (after_call (run 1) x)) ≡ lone_until n (slot_of (after_call (run 1) x) 0).partition.quantum (slot_machine 0 (after_call (run 1) x))
-        → slot_machine 0 (if b then until_stopped n (after_call (run 1) x) else x)
-        ≡ (if eqb (slot_machine 0 x).state.status 1 then lone_until n (slot_of x 0).partition.quantum (times (slot_of x 0).partition.quantum machine_step (slot_machine 0 x)) else slot_machine 0 x)
+        → slot_machine 0 (when b then until_stopped n (after_call (run 1) x) else x)
+        ≡ (when eqb (slot_machine 0 x).state.status 1 then lone_until n (slot_of x 0).partition.quantum (times (slot_of x 0).partition.quantum machine_step (slot_machine 0 x)) else slot_machine 0 x)
     go true e ih =
         rw (e, ← step_machine x r)
         (ih ∙ ap (λ (p : Partition). lone_until n p.quantum (slot_machine 0 (after_call (run 1) x))) (step_partition x r))
@@ -103,7 +103,7 @@ load_machine file x g e =
 -- ---- the lines
 
 lone_report_law : (x : System) → ReadySlot x 0 → report_of x.table 0 ≡ lone_report (slot_machine 0 x)
-unfolding report_of lone_report machine_in if◌then◌else◌
+unfolding report_of lone_report machine_in when◌then◌else◌
 lone_report_law x r = rw (report_accepted x r)
 
 -- the written bytes, which lie in memory behind the input, are the front of the machine's output
@@ -134,7 +134,7 @@ load_accepted_too file memory e =
 -- the text of a file that is not refused
 pub lone_text : (file memory : List ℕ) → length memory ≡ 40960 → file_refusal file memory ≡ 0
     → text_of file memory ≡ lone_lines (lone_until 1000 (parameters_of file).quantum (fresh_machine file))
-unfolding text_of after_bench_rounds partition_for if◌then◌else◌
+unfolding text_of after_bench_rounds partition_for when◌then◌else◌
 lone_text file memory h e =
     let f : refusal (load_call file) (new_system memory) ≡ 0 = load_accepted_too file memory e in
     let x : System = after_call (load_call file) (new_system memory) in

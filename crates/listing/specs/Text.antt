@@ -1,6 +1,6 @@
 -- Definitions that must be believed: the text of the bench run (document 01, "The bench run"). A character is its
 -- number in ASCII.
-use Rattle.common.specs.Choice.{if◌then◌else◌}
+use Rattle.common.specs.Choice.{when◌then◌else◌}
 use Rattle.std.specs.Prelude.{List, [], ◌∷◌, ◌++◌, ℕ, ◌+◌, ◌-◌, ◌/◌, ◌%◌, ltb}
 use Prim.Native.Char.{code}
 use Rattle.queries.specs.declared.reported.Report.{Report}
@@ -8,7 +8,7 @@ use Rattle.listing.specs.Ascii.{ascii}
 
 -- a digit of a number below 16; hex letters are capitals
 unfoldable pub hex_digit : ℕ → ℕ
-hex_digit n = if ltb n 10 then code "0" + n else code "A" + (n - 10)
+hex_digit n = when ltb n 10 then code "0" + n else code "A" + (n - 10)
 
 -- two digits
 unfoldable pub hex_byte : ℕ → List ℕ
@@ -20,7 +20,7 @@ hex_u16 w = hex_byte (w / 256) ++ hex_byte (w % 256)
 
 -- a number below 100, which a status and a refusal are, in decimal
 unfoldable pub decimal_digits : ℕ → List ℕ
-decimal_digits n = if ltb n 10 then (code "0" + n) ∷ [] else (code "0" + n / 10) ∷ (code "0" + n % 10) ∷ []
+decimal_digits n = when ltb n 10 then (code "0" + n) ∷ [] else (code "0" + n / 10) ∷ (code "0" + n % 10) ∷ []
 
 -- a byte as a field behind another one: a space and two digits
 unfoldable pub field : ℕ → List ℕ

@@ -2,7 +2,7 @@
 use Rattle.std.specs.Prelude.{List, [], ◌∷◌, ◌++◌, ◌≡◌, refl, ℕ, ◌+◌, ◌*◌, ◌≤◌, ◌<◌, ◌/◌, ◌%◌, length, get_or, take}
 use Rattle.std.proofs.Common.{append_assoc, append-nil, sym, ap, ◌∙◌, add-one, arith, lt-ltb, le-ltb, length-append, take-suc}
 use Rattle.std.proofs.Math.Decide.{dec_lt}
-use Rattle.common.specs.Choice.{if◌then◌else◌}
+use Rattle.common.specs.Choice.{when◌then◌else◌}
 use Rattle.listing.specs.Text.{hex_byte, decimal_digits, field, fields}
 
 pub field_length : (b : ℕ) → length (field b) ≡ 3
@@ -30,11 +30,11 @@ fields_more l i h =
 
 -- a number below 10 is one digit, and the others are two
 pub one_digit : (n : ℕ) → n < 10 → decimal_digits n ≡ (48 + n) ∷ []
-unfolding decimal_digits if◌then◌else◌
+unfolding decimal_digits when◌then◌else◌
 one_digit n h = rw (lt-ltb n 10 h)
 
 pub two_digits : (n : ℕ) → 10 ≤ n → decimal_digits n ≡ (48 + n / 10) ∷ (48 + n % 10) ∷ []
-unfolding decimal_digits if◌then◌else◌
+unfolding decimal_digits when◌then◌else◌
 two_digits n h = rw (le-ltb n 10 h)
 
 pub decimal_digits_short : (n : ℕ) → length (decimal_digits n) ≤ 2

@@ -1,6 +1,6 @@
 -- Definitions that must be believed: what a host's call to run one machine answers and leaves.
 use Rattle.std.specs.Prelude.{List, ℕ, eqb, length}
-use Rattle.common.specs.Choice.{if◌then◌else◌}
+use Rattle.common.specs.Choice.{when◌then◌else◌}
 use Rattle.cpu.specs.Machine.{Machine, beyond, machine_of, machine_step}
 use Rattle.common.specs.Repetition.{times}
 use Rattle.common.specs.declared.layout.Layout.{Layout}
@@ -23,11 +23,11 @@ lent_machine layout state partition = machine_of layout (state_from_bytes state)
 -- by the answer: 0 is a machine that ran, any other a refusal
 unfoldable pub machine_outcome : ℕ → Layout → List ℕ → List ℕ → MachineOutcome
 machine_outcome answer layout state partition =
-    if eqb answer 0 then Ran (lent_machine layout state partition) (beyond layout partition) else RunRefused answer state partition
+    when eqb answer 0 then Ran (lent_machine layout state partition) (beyond layout partition) else RunRefused answer state partition
 
 -- so many steps of the machine; a state of another length is refused by 1
 unfoldable pub machine_outcome_of : Layout → List ℕ → List ℕ → ℕ → MachineOutcome
 machine_outcome_of layout state partition steps =
-    if eqb (length state) state_length
+    when eqb (length state) state_length
     then Ran (times steps machine_step (lent_machine layout state partition)) (beyond layout partition)
     else RunRefused 1 state partition

@@ -1,6 +1,6 @@
 -- Names for lists of definitions: `unfolding file_definitions` opens all that reading and writing a file is made of, so that a worked
 -- case computes. Nothing here has to be believed.
-use Rattle.common.specs.Choice.{if◌then◌else◌}
+use Rattle.common.specs.Choice.{when◌then◌else◌}
 use Rattle.common.specs.Layout.{layout_sound}
 use Rattle.common.specs.Refusals.{unless}
 use Rattle.common.specs.Tests.{and_all}
@@ -17,5 +17,5 @@ record_definitions = Unit {0}
 
 -- reading and writing
 unfoldable pub file_definitions : Type 0
-unfolding record_definitions unless if◌then◌else◌ version_conditions parameters_conditions code_conditions input_conditions end_conditions read_of code_body_of input_body_of records_of write_conditions write_of
+unfolding record_definitions unless when◌then◌else◌ version_conditions parameters_conditions code_conditions input_conditions end_conditions read_of code_body_of input_body_of records_of write_conditions write_of
 file_definitions = Unit {0}

@@ -1,11 +1,11 @@
 -- Definitions that must be believed: the window's bytes, and the body of `PC` that stands for them.
 use Rattle.std.specs.Prelude.{ℕ, ◌-◌, Bool, not, ◌&&◌, List, [], ◌∷◌, ◌++◌, length, get_or, replicate, eqb}
-use Rattle.common.specs.Choice.{if◌then◌else◌}
+use Rattle.common.specs.Choice.{when◌then◌else◌}
 
 -- x in front of a trimmed list
 abbrev pub cons_trimmed : ℕ → List ℕ → List ℕ
 cons_trimmed x (y ∷ ys) = x ∷ y ∷ ys
-cons_trimmed x [] = if eqb x 0 then [] else x ∷ []
+cons_trimmed x [] = when eqb x 0 then [] else x ∷ []
 
 -- a list without its trailing zeros
 unfoldable pub trim : List ℕ → List ℕ

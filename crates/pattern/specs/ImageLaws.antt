@@ -4,13 +4,13 @@ use Rattle.std.proofs.Common.{append-nil, append_assoc, sym, ap, ◌∙◌, arit
 use Rattle.std.proofs.lemmas.List.{length-replicate, get_or-replicate}
 use Rattle.std.proofs.Math.Seq.{take-length}
 use Rattle.std.proofs.lemmas.Bool.{eqb-false}
-use Rattle.common.specs.Choice.{if◌then◌else◌}
+use Rattle.common.specs.Choice.{when◌then◌else◌}
 use Rattle.pattern.specs.Image.{cons_trimmed, trim, padded, ends_in_zero}
 
 -- ---- a trailing zero does not count, and a list whose last byte is not zero is left
 
 pub trim_zero : (xs : List ℕ) → trim (xs ++ (0 ∷ [])) ≡ trim xs
-unfolding trim if◌then◌else◌
+unfolding trim when◌then◌else◌
 trim_zero [] = refl
 trim_zero (x ∷ xs) = ap (cons_trimmed x) (trim_zero xs)
 
@@ -19,7 +19,7 @@ cons_trimmed_snoc x [] y = refl
 cons_trimmed_snoc x (z ∷ zs) y = refl
 
 trim_last : (xs : List ℕ) (y : ℕ) → (y ≡ 0 → ⊥) → trim (xs ++ (y ∷ [])) ≡ xs ++ (y ∷ [])
-unfolding trim if◌then◌else◌
+unfolding trim when◌then◌else◌
 trim_last [] y h = simp (ne_eqb y 0 h)
 trim_last (x ∷ xs) y h = ap (cons_trimmed x) (trim_last xs y h) ∙ cons_trimmed_snoc x xs y
 
@@ -36,7 +36,7 @@ trim_stop s n h k z = ap trim (take_last s n h k) ∙ trim_last (take (n - 1) s)
 
 -- the trimmed list is a front
 pub trim_front : (s : List ℕ) → take (length (trim s)) s ≡ trim s
-unfolding trim if◌then◌else◌
+unfolding trim when◌then◌else◌
 trim_front [] = refl
 trim_front (x ∷ xs) = go (trim xs) (trim_front xs)
   where
@@ -44,7 +44,7 @@ trim_front (x ∷ xs) = go (trim xs) (trim_front xs)
     go (y ∷ ys) e = ap (λ (l : List ℕ). x ∷ l) e
     go [] e = single (eqb x 0)
       where
-        single : (b : Bool) → take (length (if b then [] else x ∷ [])) (x ∷ xs) ≡ (if b then [] else x ∷ [])
+        single : (b : Bool) → take (length (when b then [] else x ∷ [])) (x ∷ xs) ≡ (when b then [] else x ∷ [])
         single true = refl
         single false = refl
 
@@ -69,10 +69,10 @@ ends_test s h = go (eqb (length s) 0) refl
     go false e = ne_eqb (get_or s (length s - 1) 0) 0 (h (eqb-false (length s) 0 e))
 
 ends_cons : (x : ℕ) (t : List ℕ) → EndsNonzero t → EndsNonzero (cons_trimmed x t)
-unfolding if◌then◌else◌
+unfolding when◌then◌else◌
 ends_cons x [] h = single (eqb x 0) refl
   where
-    single : (b : Bool) → eqb x 0 ≡ b → EndsNonzero (if b then [] else x ∷ [])
+    single : (b : Bool) → eqb x 0 ≡ b → EndsNonzero (when b then [] else x ∷ [])
     single true e some = absurd (some refl)
     single false e some = eqb-false x 0 e
 ends_cons x (y ∷ ys) h =
@@ -81,7 +81,7 @@ ends_cons x (y ∷ ys) h =
     λ some last. h none (sym (ap (λ (i : ℕ). get_or (x ∷ y ∷ ys) i 0) e) ∙ last)
 
 trimmed_ends : (s : List ℕ) → EndsNonzero (trim s)
-unfolding trim if◌then◌else◌
+unfolding trim when◌then◌else◌
 trimmed_ends [] = λ some. absurd (some refl)
 trimmed_ends (x ∷ xs) = ends_cons x (trim xs) (trimmed_ends xs)
 
@@ -99,10 +99,10 @@ pub padded_length : (n : ℕ) (code : List ℕ) → length code ≤ n → length
 padded_length n code h = simp (length-append, length-replicate) (omega arith)
 
 pad_cons : (x : ℕ) (xs t : List ℕ) → padded (length xs) t ≡ xs → padded (length (x ∷ xs)) (cons_trimmed x t) ≡ x ∷ xs
-unfolding if◌then◌else◌
+unfolding when◌then◌else◌
 pad_cons x xs [] h = single (eqb x 0) refl
   where
-    single : (b : Bool) → eqb x 0 ≡ b → padded (length (x ∷ xs)) (if b then [] else x ∷ []) ≡ x ∷ xs
+    single : (b : Bool) → eqb x 0 ≡ b → padded (length (x ∷ xs)) (when b then [] else x ∷ []) ≡ x ∷ xs
     single true e =
         let i : length (x ∷ xs) - 0 ≡ suc (length xs - 0) = omega arith in
         ap (λ (n : ℕ). replicate n 0) i ∙ ap (λ (l : List ℕ). 0 ∷ l) h ∙ ap (λ (z : ℕ). z ∷ xs) (sym (eqb-true x 0 e))
@@ -114,7 +114,7 @@ pad_cons x xs (y ∷ ys) h =
     ap (λ (n : ℕ). x ∷ y ∷ (ys ++ replicate n 0)) i ∙ ap (λ (l : List ℕ). x ∷ l) h
 
 pub padded_trim : (s : List ℕ) → padded (length s) (trim s) ≡ s
-unfolding trim if◌then◌else◌
+unfolding trim when◌then◌else◌
 padded_trim [] = refl
 padded_trim (x ∷ xs) = pad_cons x xs (trim xs) (padded_trim xs)
 
@@ -123,7 +123,7 @@ trim_zeros zero s = ap trim (append-nil s)
 trim_zeros (suc k) s = ap trim (sym (append_assoc s (0 ∷ []) (replicate k 0))) ∙ trim_zeros k (s ++ (0 ∷ [])) ∙ trim_zero s
 
 pub trim_kept : (s : List ℕ) → ends_in_zero s ≡ false → trim s ≡ s
-unfolding trim if◌then◌else◌
+unfolding trim when◌then◌else◌
 trim_kept [] h = refl
 trim_kept (x ∷ xs) h =
     let s : List ℕ = x ∷ xs in

@@ -7,7 +7,7 @@ use Rattle.std.proofs.Math.Path.{ap}
 use Rattle.std.proofs.Math.Decide.{ℕ_discrete}
 use Rattle.std.proofs.Math.ListN.{length, get_or}
 use Rattle.std.proofs.Math.Seq.{take_all, take-append_seam}
-use Rattle.common.specs.Choice.{if◌then◌else◌}
+use Rattle.common.specs.Choice.{when◌then◌else◌}
 use Rattle.common.specs.ChoiceLaws.{if_all}
 use Rattle.common.specs.LayoutLaws.{LayoutSound, layout_fact}
 use Rattle.common.specs.TestLaws.{OneTo, one_to_fact, all_fact}
@@ -35,11 +35,11 @@ range_fact v h =
 
 module _ (v : Parameters) where
   pub form_plain : v.layout.locked ≡ 0 → form_of v ≡ 1
-  unfolding form_of if◌then◌else◌
+  unfolding form_of when◌then◌else◌
   form_plain none = rw (eq-eqb v.layout.locked 0 none)
 
   pub form_locked : (v.layout.locked ≡ 0 → ⊥) → form_of v ≡ 2
-  unfolding form_of if◌then◌else◌
+  unfolding form_of when◌then◌else◌
   form_locked some = rw (ne_eqb v.layout.locked 0 some)
 
   pub form_one_plain : form_of v ≡ 1 → v.layout.locked ≡ 0
@@ -55,11 +55,11 @@ module _ (v : Parameters) where
   form_known = if_all (λ (form : ℕ). (not (eqb form 1) && not (eqb form 2)) ≡ false) (λ none. refl) (λ some. refl)
 
   pub plain_length : v.layout.locked ≡ 0 → parameters_length (form_of v) ≡ 9
-  unfolding parameters_length if◌then◌else◌
+  unfolding parameters_length when◌then◌else◌
   plain_length none = rw (form_plain none)
 
   pub locked_length : (v.layout.locked ≡ 0 → ⊥) → parameters_length (form_of v) ≡ parameters_bytes_length
-  unfolding parameters_length if◌then◌else◌
+  unfolding parameters_length when◌then◌else◌
   locked_length some = rw (form_locked some)
 
 pub parameters_least : (form : ℕ) → 9 ≤ parameters_length form

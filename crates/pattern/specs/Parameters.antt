@@ -1,7 +1,7 @@
 -- Definitions that must be believed: the parameters of a pattern, their ranges, and how they look as bytes (document 01, "Pattern file, form 1", `PB`;
 -- document 02, U6: form 2 has the locked length too).
 use Rattle.std.specs.Prelude.{ℕ, Bool, List, [], ◌∷◌, ltb, eqb, get_or, take}
-use Rattle.common.specs.Choice.{if◌then◌else◌}
+use Rattle.common.specs.Choice.{when◌then◌else◌}
 use Rattle.common.specs.Layout.{layout_sound}
 use Rattle.common.specs.Ranges.{is_one_to}
 use Rattle.common.specs.Tests.{all}
@@ -15,7 +15,7 @@ is_in_range p = all (layout_sound p.layout ∷ ltb p.start.0 p.layout.window ∷
 
 -- the form of a pattern's file: 1 exactly if nothing is locked
 unfoldable pub form_of : Parameters → ℕ
-form_of p = if eqb p.layout.locked 0 then 1 else 2
+form_of p = when eqb p.layout.locked 0 then 1 else 2
 
 -- parameters as bytes, the locked length last
 unfoldable pub parameters_bytes : Parameters → List ℕ
@@ -36,7 +36,7 @@ parameters_bytes_length = 11
 
 -- the length of the body of `PB` in a file of that form: form 1 has no locked length
 unfoldable pub parameters_length : ℕ → ℕ
-parameters_length form = if eqb form 1 then 9 else parameters_bytes_length
+parameters_length form = when eqb form 1 then 9 else parameters_bytes_length
 
 -- the body of `PB` in the pattern's file: the first nine of these bytes in form 1, all of them in form 2
 abbrev pub parameters_body : Parameters → List ℕ

@@ -1,5 +1,5 @@
 -- Laws that the checker has shown: what an accepted file is, record by record.
-use Rattle.common.specs.Choice.{if◌then◌else◌}
+use Rattle.common.specs.Choice.{when◌then◌else◌}
 use Rattle.std.specs.Prelude.{ℕ, ◌+◌, ◌≤◌, Bool, true, false, ◌≡◌, refl, length, take, eqb}
 use mathlib.Core.List.{List, [], ◌∷◌}
 use Rattle.std.proofs.Math.Path.{sym, ap}
@@ -227,9 +227,9 @@ unfolding condition_definitions
 unless_zero [] a n e = (refl, e)
 unless_zero (k ∷ ks) a n e = go k.holds refl e (unless_zero ks a n.1)
   where
-    go : (b : Bool) → k.holds ≡ b → read_refusal (if b then Refused k.number else unless Refused ks a) ≡ 0
+    go : (b : Bool) → k.holds ≡ b → read_refusal (when b then Refused k.number else unless Refused ks a) ≡ 0
         → (read_refusal (unless Refused ks a) ≡ 0 → (unless Refused ks a ≡ a) × (read_refusal a ≡ 0))
-        → ((if b then Refused k.number else unless Refused ks a) ≡ a) × (read_refusal a ≡ 0)
+        → ((when b then Refused k.number else unless Refused ks a) ≡ a) × (read_refusal a ≡ 0)
     go true q e further = let p : 1 ≤ k.number = n.0 q in absurd (omega arith)
     go false q e further = further e
 

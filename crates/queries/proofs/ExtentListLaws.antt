@@ -9,7 +9,7 @@ use native.Mathlib.Decide.{dec_lt}
 use native.Mathlib.Numerals.{add-one}
 use native.Mathlib.Omega.{arith}
 use borrow.Author.Tests.{lt-ltb}
-use Rattle.common.specs.Choice.{if◌then◌else◌}
+use Rattle.common.specs.Choice.{when◌then◌else◌}
 use Rattle.table.specs.ExtentLaws.{extent_few, extent_none}
 use Rattle.table.specs.Extents.{extent, empty_extent, extent_between, lower_part, upper_part, without_partition, each_without, without_slots_below}
 use Rattle.table.specs.ExtentsTheorem.{below_rises}
@@ -29,7 +29,7 @@ module _ (extents : List Extent) (count start end : ℕ) where
 
   module _ (some : start < end) where
     extent_one : extent_between start end ≡ extent start end ∷ []
-    unfolding extent_between if◌then◌else◌
+    unfolding extent_between when◌then◌else◌
     extent_one = rw (lt-ltb start end some) refl
 
     -- there is room for it
@@ -133,20 +133,20 @@ module _ (p : Partition) where
 
 module _ (t : Table) (n : ℕ) (l : List Extent) (e : l ≡ without_slots_below t n) where
   pub below_taken : is_loaded t n ≡ true → each_without (slot_at t n).partition l ≡ without_slots_below t (n + 1)
-  unfolding without_slots_below if◌then◌else◌
+  unfolding without_slots_below when◌then◌else◌
   below_taken h = rw (add-one n, h) (ap (each_without (slot_at t n).partition) e)
 
   pub below_skipped : is_loaded t n ≡ false → l ≡ without_slots_below t (n + 1)
-  unfolding without_slots_below if◌then◌else◌
+  unfolding without_slots_below when◌then◌else◌
   below_skipped h = rw (add-one n, h) e
 
 -- n partitions leave at most n + 1 extents
 below_few : (t : Table) → SlotsSound t → (n : ℕ) → n ≤ 8 → length (without_slots_below t n) ≤ n + 1
-unfolding without_slots_below if◌then◌else◌
+unfolding without_slots_below when◌then◌else◌
 below_few t sound zero q = extent_few 0 t.size
 below_few t sound (suc n) q = go (is_loaded t n) (below_few t sound n (omega arith))
   where
-    go : (b : Bool) → length (without_slots_below t n) ≤ n + 1 → length (if b then each_without (slot_at t n).partition (without_slots_below t n) else without_slots_below t n) ≤ suc n + 1
+    go : (b : Bool) → length (without_slots_below t n) ≤ n + 1 → length (when b then each_without (slot_at t n).partition (without_slots_below t n) else without_slots_below t n) ≤ suc n + 1
     go true further = omega (arith, each_few (slot_at t n).partition 0 (without_slots_below t n) (below_rises t sound n (omega arith)))
     go false further = omega arith
 
@@ -161,7 +161,7 @@ module _ (size : ℕ) (extents : List Extent) (count i : ℕ) (best : Extent) wh
   BestSoFar = best_of size best (drop i (take count extents)) ≡ best_of size empty_extent (take count extents)
 
   module _ (inside : count ≤ length extents) where
-    pub best_more : (d next : Extent) → i < count → BestSoFar → next ≡ (if fits_better size (get_or extents i d) best then get_or extents i d else best) → best_of size next (drop (i + 1) (take count extents)) ≡ best_of size empty_extent (take count extents)
+    pub best_more : (d next : Extent) → i < count → BestSoFar → next ≡ (when fits_better size (get_or extents i d) best then get_or extents i d else best) → best_of size next (drop (i + 1) (take count extents)) ≡ best_of size empty_extent (take count extents)
     unfolding best_of
     best_more d next q h e =
         let split : drop i (take count extents) ≡ get_or extents i d ∷ drop (i + 1) (take count extents) =

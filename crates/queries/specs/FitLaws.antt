@@ -9,7 +9,7 @@ use Rattle.std.proofs.Math.Path.{refl}
 use Rattle.std.proofs.Common.{sym, ap, ◌∙◌, arith}
 use Rattle.std.proofs.Math.Decide.{dec_le}
 use borrow.Author.Tests.{leb-true, leb-false, le-leb, ltb-true, lt-leb, lt-ltb, not-true}
-use Rattle.common.specs.Choice.{if◌then◌else◌}
+use Rattle.common.specs.Choice.{when◌then◌else◌}
 use Rattle.common.specs.TestLaws.{and_fact, and_test, or_fact, or_left, or_right}
 use Rattle.table.specs.Extents.{extent_size}
 use Rattle.queries.specs.FitQuery.{holds_size, fits_better, best_of}
@@ -67,24 +67,24 @@ module _ (size : ℕ) where
 
   -- it is no worse than the best so far
   best_first : (best : Extent) (l : List Extent) → size ≤ extent_size best → Wins (best_of size best l) best
-  unfolding best_of if◌then◌else◌
+  unfolding best_of when◌then◌else◌
   best_first best [] q = record { holds = q; no_worse = inr (refl, omega arith) }
   best_first best (e ∷ rest) q = go (fits_better size e best) refl (best_first e rest) (best_first best rest)
     where
       go : (b : Bool) → fits_better size e best ≡ b → (size ≤ extent_size e → Wins (best_of size e rest) e) → (size ≤ extent_size best → Wins (best_of size best rest) best)
-          → Wins (best_of size (if b then e else best) rest) best
+          → Wins (best_of size (when b then e else best) rest) best
       go true h one other = let w = better_wins e best h q in wins_trans (best_of size e rest) e best (one w.holds) w
       go false h one other = other q
 
   -- it is no worse than any of the list that holds the size
   pub best_wins : (best : Extent) (n : ℕ) (l : List Extent) → RisesFrom n l → best.start ≤ n → (f : Extent) → f IsOneOf l → size ≤ extent_size f → Wins (best_of size best l) f
-  unfolding best_of if◌then◌else◌
+  unfolding best_of when◌then◌else◌
   best_wins best n [] rises low f m q = absurd m
   best_wins best n (e ∷ rest) rises low f m q =
       go (fits_better size e best) refl m (best_wins e (e.end + 1) rest rises.2 (omega (arith, rises.1)) f) (best_wins best (e.end + 1) rest rises.2 (omega (arith, rises.0, rises.1)) f)
     where
       go : (b : Bool) → fits_better size e best ≡ b → (f ≡ e) ⊎ (f IsOneOf rest) → (f IsOneOf rest → size ≤ extent_size f → Wins (best_of size e rest) f)
-          → (f IsOneOf rest → size ≤ extent_size f → Wins (best_of size best rest) f) → Wins (best_of size (if b then e else best) rest) f
+          → (f IsOneOf rest → size ≤ extent_size f → Wins (best_of size best rest) f) → Wins (best_of size (when b then e else best) rest) f
       go true h (inl m) one other = rw m (best_first e rest (rw (← m) q))
       go true h (inr m) one other = one m q
       go false h (inl m) one other =
@@ -94,12 +94,12 @@ module _ (size : ℕ) where
 
   -- it is the best so far, or one of the list
   pub best_listed : (best : Extent) (l : List Extent) → (best_of size best l ≡ best) ⊎ (best_of size best l IsOneOf l)
-  unfolding best_of if◌then◌else◌
+  unfolding best_of when◌then◌else◌
   best_listed best [] = inl refl
   best_listed best (e ∷ rest) = go (fits_better size e best) (best_listed e rest) (best_listed best rest)
     where
       go : (b : Bool) → (best_of size e rest ≡ e) ⊎ (best_of size e rest IsOneOf rest) → (best_of size best rest ≡ best) ⊎ (best_of size best rest IsOneOf rest)
-          → (best_of size (if b then e else best) rest ≡ best) ⊎ (best_of size (if b then e else best) rest IsOneOf (e ∷ rest))
+          → (best_of size (when b then e else best) rest ≡ best) ⊎ (best_of size (when b then e else best) rest IsOneOf (e ∷ rest))
       go true (inl u) other = inr (inl u)
       go true (inr u) other = inr (inr u)
       go false one (inl u) = inl u

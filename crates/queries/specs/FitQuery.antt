@@ -1,6 +1,6 @@
 -- Definitions that must be believed: where a partition of a size fits best (document 02, U2: finding a place for a bay).
 use Rattle.std.specs.Prelude.{ℕ, leb, ltb, Bool, ◌&&◌, ◌||◌, not, List, [], ◌∷◌}
-use Rattle.common.specs.Choice.{if◌then◌else◌}
+use Rattle.common.specs.Choice.{when◌then◌else◌}
 use Rattle.common.specs.Ranges.{is_one_to}
 use Rattle.common.specs.Refusals.{Condition, ◌gives◌}
 use Rattle.table.specs.Extents.{empty_extent, extent_size, free_extents, widest_extent}
@@ -18,7 +18,7 @@ fits_better size e best = holds_size size e && (not (holds_size size best) || lt
 -- the best of a list, after the best one so far. Of equal ones the first stays
 unfoldable pub best_of : ℕ → Extent → List Extent → Extent
 best_of size best [] = best
-best_of size best (e ∷ rest) = best_of size (if fits_better size e best then e else best) rest
+best_of size best (e ∷ rest) = best_of size (when fits_better size e best then e else best) rest
 
 -- the smallest free extent that holds the size. The list rises, so the first of equal ones has the lowest start. No byte, at 0, if none holds
 -- it

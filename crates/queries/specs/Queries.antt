@@ -1,7 +1,7 @@
 -- Definitions that must be believed: what is asked of a table, what refuses it, and what it answers. A query takes no memory and changes
 -- nothing.
 use Rattle.std.specs.Prelude.{List, ◌++◌, ℕ, eqb, length, drop, replicate}
-use Rattle.common.specs.Choice.{if◌then◌else◌}
+use Rattle.common.specs.Choice.{when◌then◌else◌}
 use Rattle.common.specs.Refusals.{Condition, refusal_by, unless}
 use Rattle.table.specs.TableConditions.{table_conditions, loaded_slot_conditions}
 use Rattle.queries.specs.Reporting.{reported_psu}
@@ -33,7 +33,7 @@ query_refusal q t = refusal_by (query_conditions q t)
 -- status, counter, registers, PSU with Sense, PSL; a refused one is all zero
 unfoldable pub report_of : Table → ℕ → Report
 report_of t k =
-    if eqb (query_refusal (report k) t) 0
+    when eqb (query_refusal (report k) t) 0
     then
     record {
       refusal = 0;

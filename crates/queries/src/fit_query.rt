@@ -1,6 +1,6 @@
 // Where a partition fits best: the start of the smallest free extent that holds it.
 ghost use Rattle.std.specs.Prelude.{◌≡◌, ◌≤◌, take};
-ghost use Rattle.common.specs.Choice.{if◌then◌else◌};
+ghost use Rattle.common.specs.Choice.{when◌then◌else◌};
 ghost use Rattle.queries.specs.Queries.{fit_answer, fit_of};
 ghost use Rattle.table.specs.Extents.{empty_extent};
 ghost use Rattle.queries.specs.FitQuery.{fits_better, best_of, is_size_in_range};
@@ -27,7 +27,7 @@ fn fits_better(size: usize, e: Extent, best: Extent) -> bool
 
 // The better of the two: the best one so far, if they are equal.
 fn better_fit(size: usize, e: Extent, best: Extent) -> Extent
-    ensures { result ≡ (if fits_better size e best then e else best) }
+    ensures { result ≡ (when fits_better size e best then e else best) }
 {
     if fits_better(size, e, best) { e } else { best }
 }

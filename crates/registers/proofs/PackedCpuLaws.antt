@@ -4,7 +4,7 @@ use mathlib.Core.Path.{◌≡◌, refl, ap, ◌∙◌}
 use Prim.Native.Nat.{ℕ, zero, suc, ◌+◌, ◌*◌, ◌/◌, ◌%◌, ◌-◌, ◌<◌, ◌≤◌}
 use native.Mathlib.Omega.{arith}
 use lib.ListN.{get_or, set, length}
-use Rattle.common.specs.Choice.{if◌then◌else◌}
+use Rattle.common.specs.Choice.{when◌then◌else◌}
 use Rattle.registers.specs.PackedCpu.{byte_at, set_byte, quarter_at, set_quarter, register_bytes, return_quarters, in_bank_order, cpu_of}
 use Rattle.registers.specs.Cpu.{register_index, with_counter, with_psu, with_psl}
 use Rattle.registers.specs.declared.packed_cpu.PackedCpu.{PackedCpu}
@@ -33,7 +33,7 @@ two_bits rs r = let e : r % 4 % 4 ≡ r % 4 = omega arith in rw e
 
 -- the bank in use stands first: register r is byte r, whichever bank that is
 get_in_bank_order : (rs x r : ℕ) → rs < 2 → r < 4 → byte_at x r ≡ get_or (in_bank_order rs (register_bytes x)) (register_index rs r) 0
-unfolding register_bytes in_bank_order register_index if◌then◌else◌
+unfolding register_bytes in_bank_order register_index when◌then◌else◌
 get_in_bank_order zero x zero k l = refl
 get_in_bank_order zero x (suc zero) k l = refl
 get_in_bank_order zero x (suc (suc zero)) k l = refl
@@ -51,7 +51,7 @@ get_register rs x r k =
     get_in_bank_order rs x (r % 4) k (omega arith) ∙ ap (λ (i : ℕ). get_or (in_bank_order rs (register_bytes x)) i 0) (two_bits rs r)
 
 set_in_bank_order : (rs x r v : ℕ) → rs < 2 → r < 4 → in_bank_order rs (set (register_bytes x) r v) ≡ set (in_bank_order rs (register_bytes x)) (register_index rs r) v
-unfolding register_bytes in_bank_order register_index if◌then◌else◌
+unfolding register_bytes in_bank_order register_index when◌then◌else◌
 set_in_bank_order zero x zero v k l = refl
 set_in_bank_order zero x (suc zero) v k l = refl
 set_in_bank_order zero x (suc (suc zero)) v k l = refl
@@ -72,7 +72,7 @@ set_register rs x r v k b =
 
 -- the banks exchanged in the word, and RS with them
 pub swap_twice : (rs rs' x : ℕ) → rs < 2 → rs' < 2 → (rs' ≡ rs → ⊥) → in_bank_order rs' (in_bank_order 1 (register_bytes x)) ≡ in_bank_order rs (register_bytes x)
-unfolding register_bytes in_bank_order if◌then◌else◌
+unfolding register_bytes in_bank_order when◌then◌else◌
 swap_twice zero zero x p q n = absurd (n refl)
 swap_twice zero (suc zero) x p q n = refl
 swap_twice (suc zero) zero x p q n = refl
@@ -87,7 +87,7 @@ register_bytes_by_banks a m n p q = register_list_equal (omega arith) (omega ari
 
 -- with any byte above the seven
 pub swapped_registers : (x u : ℕ) → register_bytes (x % 256 + x / 4294967296 % 16777216 * 256 + (x / 256 % 16777216 + u * 16777216) * 4294967296) ≡ in_bank_order 1 (register_bytes x)
-unfolding register_bytes in_bank_order if◌then◌else◌
+unfolding register_bytes in_bank_order when◌then◌else◌
 swapped_registers x u =
     register_bytes_by_banks (x % 256) (x / 4294967296 % 16777216) (x / 256 % 16777216 + u * 16777216) (omega arith) (omega arith)
     ∙ register_list_equal (omega arith) (omega arith) (omega arith) (omega arith) (omega arith) (omega arith) (omega arith)
@@ -185,7 +185,7 @@ unfolding return_quarters
 returns_packed x y p q r s t u v w = return_list_equal p q r s t u v w
 
 whole_cpu : (x : PackedCpu) (m : Cpu) → x.psl ≡ 0 → register_bytes x.registers ≡ m.registers → return_quarters x.low x.high ≡ m.returns → with_psl (with_psu (with_counter (cpu_of x) (record { 0 = m.counter })) m.psu) m.psl ≡ m
-unfolding cpu_of with_psl with_psu with_counter in_bank_order if◌then◌else◌
+unfolding cpu_of with_psl with_psu with_counter in_bank_order when◌then◌else◌
 whole_cpu x m z p q = rw (z, p, q)
 
 -- a state packed field by field, from RS 0

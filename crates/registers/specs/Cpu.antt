@@ -2,7 +2,7 @@
 -- (document 01, "The machine"; manual, "Program Status Word").
 use Rattle.std.specs.Prelude.{Bool, ℕ, ◌+◌, ◌*◌, ◌/◌, ◌%◌, eqb, get_or, set, replicate}
 use Rattle.alu.specs.Psl.{bit_rs}
-use Rattle.common.specs.Choice.{if◌then◌else◌}
+use Rattle.common.specs.Choice.{when◌then◌else◌}
 use Rattle.common.specs.declared.places.Address.{Address}
 use Rattle.registers.specs.declared.cpu.Cpu.{Cpu}
 
@@ -37,11 +37,11 @@ psl_of cpu = cpu.psl
 
 -- PSU with Sense, which is 1 exactly while unread input remains
 unfoldable pub psu_with_sense : Cpu → Bool → ℕ
-psu_with_sense cpu unread = if unread then psu_of cpu % 128 + 128 else psu_of cpu % 128
+psu_with_sense cpu unread = when unread then psu_of cpu % 128 + 128 else psu_of cpu % 128
 
 -- where register r stands among the seven: R0, then R1 to R3 of bank 0, then R1 to R3 of bank 1. Two bits name it, the last two of r
 unfoldable pub register_index : ℕ → ℕ → ℕ
-register_index rs r = if eqb (r % 4) 0 then 0 else r % 4 + 3 * rs
+register_index rs r = when eqb (r % 4) 0 then 0 else r % 4 + 3 * rs
 
 unfoldable pub register_of : Cpu → ℕ → ℕ
 register_of cpu r = get_or cpu.registers (register_index (bit_rs (psl_of cpu)) r) 0

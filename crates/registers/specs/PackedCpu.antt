@@ -1,7 +1,7 @@
 -- What private code is held to: the packed form of a run as the Cpu that it stands for. Nothing here has to be believed: the contracts of
 -- `step` and `run` in crate `cpu` do not mention it.
 use Rattle.std.specs.Prelude.{List, [], ◌∷◌, ℕ, ◌+◌, ◌*◌, ◌/◌, ◌%◌, ◌-◌, ◌^◌, eqb, get_or}
-use Rattle.common.specs.Choice.{if◌then◌else◌}
+use Rattle.common.specs.Choice.{when◌then◌else◌}
 use Rattle.alu.specs.Psl.{bit_rs}
 use Rattle.registers.specs.declared.packed_cpu.PackedCpu.{PackedCpu}
 use Rattle.registers.specs.declared.cpu.Cpu.{Cpu}
@@ -28,7 +28,7 @@ return_quarters x y = quarter_at x 0 ∷ quarter_at x 1 ∷ quarter_at x 2 ∷ q
 
 -- the bank in use stands first in the word: with RS 1 the two banks change places
 unfoldable pub in_bank_order : ℕ → List ℕ → List ℕ
-in_bank_order rs l = if eqb rs 0 then l else get_or l 0 0 ∷ get_or l 4 0 ∷ get_or l 5 0 ∷ get_or l 6 0 ∷ get_or l 1 0 ∷ get_or l 2 0 ∷ get_or l 3 0 ∷ []
+in_bank_order rs l = when eqb rs 0 then l else get_or l 0 0 ∷ get_or l 4 0 ∷ get_or l 5 0 ∷ get_or l 6 0 ∷ get_or l 1 0 ∷ get_or l 2 0 ∷ get_or l 3 0 ∷ []
 
 -- the view: total, each part cut to its size, so that no range of a word is ever asked for
 unfoldable pub cpu_of : PackedCpu → Cpu

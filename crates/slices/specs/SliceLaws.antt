@@ -7,7 +7,7 @@ use Rattle.std.proofs.Math.ListN.{get_or-eq_default}
 use Rattle.std.proofs.Math.Seq.{take-nil, drop-nil, take-append_seam}
 use Rattle.std.proofs.lemmas.List.{take-append-le}
 use Rattle.std.proofs.lemmas.Bool.{lt-leb}
-use Rattle.common.specs.Choice.{if◌then◌else◌}
+use Rattle.common.specs.Choice.{when◌then◌else◌}
 use Rattle.slices.specs.Slices.{AllBytes, part_of, copied}
 
 -- a part is the end of a front
@@ -37,20 +37,20 @@ bytes_drop n s h i = subst⁻¹ (λ (x : ℕ). x < 256) (get_or-drop n s i 0) (h
 
 -- with room the source stands in the list, and without it the list is left
 pub copied_whole : (d : List ℕ) (at : ℕ) (s : List ℕ) → at + length s ≤ length d → copied d at s ≡ take at d ++ s ++ drop (at + length s) d
-unfolding copied if◌then◌else◌
+unfolding copied when◌then◌else◌
 copied_whole d at s h = simp (le-leb (at + length s) (length d) h)
 
 pub copied_left : (d : List ℕ) (at : ℕ) (s : List ℕ) → length d < at + length s → copied d at s ≡ d
-unfolding copied if◌then◌else◌
+unfolding copied when◌then◌else◌
 copied_left d at s h = simp (lt-leb (at + length s) (length d) h)
 
 -- what holds in both of these cases holds of a copy
 copied_either : (P : List ℕ → Type 0) (d : List ℕ) (at : ℕ) (s : List ℕ)
     → (at + length s ≤ length d → P (take at d ++ s ++ drop (at + length s) d)) → P d → P (copied d at s)
-unfolding copied if◌then◌else◌
+unfolding copied when◌then◌else◌
 copied_either P d at s whole left = go (leb (at + length s) (length d)) refl
   where
-    go : (b : Bool) → leb (at + length s) (length d) ≡ b → P (if b then take at d ++ s ++ drop (at + length s) d else d)
+    go : (b : Bool) → leb (at + length s) (length d) ≡ b → P (when b then take at d ++ s ++ drop (at + length s) d else d)
     go true e = whole (leb-true (at + length s) (length d) e)
     go false e = left
 

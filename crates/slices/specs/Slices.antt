@@ -1,6 +1,6 @@
 -- Definitions that must be believed: a part of a list of bytes, what a copy or a fill leaves, and a list made of pieces or of elements.
 use Rattle.std.specs.Prelude.{ℕ, zero, suc, ◌+◌, ◌<◌, List, [], ◌∷◌, ◌++◌, length, get_or, take, drop, replicate, leb}
-use Rattle.common.specs.Choice.{if◌then◌else◌}
+use Rattle.common.specs.Choice.{when◌then◌else◌}
 
 -- each element is a byte, as in every slice of bytes
 unfoldable pub AllBytes : List ℕ → Type 0
@@ -12,7 +12,7 @@ part_of s at n = take n (drop at s)
 
 -- d with s in place of its bytes from at on; d itself where s would pass its end
 unfoldable pub copied : List ℕ → ℕ → List ℕ → List ℕ
-copied d at s = if leb (at + length s) (length d) then take at d ++ s ++ drop (at + length s) d else d
+copied d at s = when leb (at + length s) (length d) then take at d ++ s ++ drop (at + length s) d else d
 
 -- the same, with n times the byte b for s
 abbrev pub filled_with : List ℕ → ℕ → ℕ → ℕ → List ℕ

@@ -2,7 +2,7 @@
 use Rattle.std.proofs.Common.{◌≡◌, ℕ, suc, ◌+◌, ◌-◌, ◌*◌, ◌/◌, ◌%◌, ◌<◌, ◌≤◌, Bool, true, false, ltb, ℤ, pos, negsuc, ◌+ℤ◌, sym, refl, ap, ◌∙◌, subst, arith, to_z-of_z, w16, Fits, SFits, to_z, of_z, ltb-false, ltb-true, le-ltb}
 use lib.Signed.{mag}
 use Rattle.steps.specs.Address.{displacement_of, displaced_of}
-use Rattle.common.specs.Choice.{if◌then◌else◌}
+use Rattle.common.specs.Choice.{when◌then◌else◌}
 use Rattle.common.specs.Signed16Laws.{as_signed}
 use Rattle.common.specs.declared.places.Address.{Address}
 
@@ -43,7 +43,7 @@ displaced_law a (negsuc k) h =
     let e : a.0 / 8192 * 8192 + (a.0 % 8192 + 8192 - suc k) % 8192 ≡ a.0 / 8192 * 8192 + (a.0 % 8192 + (8191 - k)) % 8192 = omega arith in ap address_at e
 
 pub displacement_small : (b : ℕ) → mag (displacement_of b) < 64
-unfolding displacement_of if◌then◌else◌
+unfolding displacement_of when◌then◌else◌
 displacement_small b = go (ltb (b % 128) 64) refl
   where
     go : (t : Bool) → ltb (b % 128) 64 ≡ t → mag (displacement_of b) < 64

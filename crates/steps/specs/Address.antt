@@ -1,7 +1,7 @@
 -- Definitions that must be believed: addresses of 15 bits in pages of 8,192, and reading through them
 -- (document 01, "The machine"; manual, "Memory Organization" and "Addressing Modes").
 use Rattle.std.specs.Prelude.{ℕ, ◌+◌, ◌-◌, ◌*◌, ◌/◌, ◌%◌, List, length, ℤ, pos, negsuc, ◌==◌, nat_lt, slice_index}
-use Rattle.common.specs.Choice.{if◌then◌else◌}
+use Rattle.common.specs.Choice.{when◌then◌else◌}
 use Rattle.common.specs.declared.places.Address.{Address}
 use Rattle.steps.specs.declared.address.Fetched.{Fetched}
 use Rattle.steps.specs.declared.address.Fetched.TheVariants.{Byte, NoByte}
@@ -18,7 +18,7 @@ add_wrapping a k = record { 0 = (a.0 + k) % 32768 }
 
 -- the window's byte at an address; from the window's size on there is none
 unfoldable pub fetch_of : List ℕ → Address → Fetched
-fetch_of window a = if nat_lt a.0 (length window) then Byte (slice_index window a.0) else NoByte
+fetch_of window a = when nat_lt a.0 (length window) then Byte (slice_index window a.0) else NoByte
 
 -- what follows if there is a byte, or an address, and what if there is none
 unfoldable pub if_fetched : {A : Type 0} → Fetched → A → (ℕ → A) → A
@@ -42,11 +42,11 @@ pointer_of window a =
 
 -- the address itself, or where the pointer there leads if the indirect bit is 1
 unfoldable pub resolve_of : List ℕ → ℕ → Address → Resolved
-resolve_of window indirect a = if indirect == 0 then At a else pointer_of window a
+resolve_of window indirect a = when indirect == 0 then At a else pointer_of window a
 
 -- the low seven bits of a relative byte as a signed displacement, -64 to 63
 unfoldable pub displacement_of : ℕ → ℤ
-displacement_of b = if nat_lt (b % 128) 64 then pos (b % 128) else negsuc (127 - b % 128)
+displacement_of b = when nat_lt (b % 128) 64 then pos (b % 128) else negsuc (127 - b % 128)
 
 -- a displacement added, modulo 8,192 in the page
 unfoldable pub displaced_of : Address → ℤ → Address

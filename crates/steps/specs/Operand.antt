@@ -2,7 +2,7 @@
 -- "Addressing Modes"; document 02, U6).
 use Rattle.std.specs.Prelude.{ℕ, ◌+◌, ◌*◌, ◌/◌, ◌%◌, Bool, false, List, ◌==◌, nat_eq, nat_lt}
 use Rattle.steps.specs.Address.{add_in_page, add_wrapping, fetch_of, if_fetched, if_resolved, pointer_of, resolve_of, relative_of}
-use Rattle.common.specs.Choice.{if◌then◌else◌}
+use Rattle.common.specs.Choice.{when◌then◌else◌}
 use Rattle.steps.specs.Result.{StepResult, Store, step_result, stopped_of, address_after, advanced_of, operated_of}
 use Rattle.registers.specs.Cpu.{counter_of, register_of, with_register}
 use Rattle.common.specs.declared.places.Address.{Address}
@@ -27,14 +27,14 @@ no_address = record { 0 = 0 }
 -- the index by the two control bits: none, one added first, one subtracted first, plain; modulo 256
 unfoldable pub index_value_of : ℕ → ℕ → ℕ
 index_value_of control v =
-    if control == 0 then 0
-    else (if nat_eq control 1 then (v + 1) % 256
-    else (if nat_eq control 2 then (v + 255) % 256 else v))
+    when control == 0 then 0
+    else (when nat_eq control 1 then (v + 1) % 256
+    else (when nat_eq control 2 then (v + 255) % 256 else v))
 
 -- the index is added within the page; after an indirect pointer it is added modulo 32,768
 unfoldable pub indexed_address_of : List ℕ → ℕ → Address → ℕ → Resolved
 indexed_address_of window indirect a i =
-    if indirect == 0 then At (add_in_page a i)
+    when indirect == 0 then At (add_in_page a i)
     else if_resolved (pointer_of window a) Outside (λ p. At (add_wrapping p i))
 
 -- thirteen bits of the instruction in its own page
@@ -43,11 +43,11 @@ data_address_of cpu high low = record { 0 = (counter_of cpu).0 / 8192 * 8192 + (
 
 -- indexed, the named register is the index and R0 the data
 unfoldable pub data_register_of : ℕ → ℕ → ℕ
-data_register_of control r = if control == 0 then r else 0
+data_register_of control r = when control == 0 then r else 0
 
 -- the index register after its step; without indexing none is stepped
 unfoldable pub stepped_index_of : Cpu → ℕ → ℕ → ℕ → Cpu
-stepped_index_of cpu r control i = if control == 0 then cpu else with_register cpu r i
+stepped_index_of cpu r control i = when control == 0 then cpu else with_register cpu r i
 
 -- the operand of an instruction of k bytes, mode by mode. In a register: the one that the code names, used with R0
 unfoldable pub register_operand_of : Cpu → ℕ → ℕ → Operand
@@ -101,4 +101,4 @@ is_locked Write a locked = nat_lt a.0 locked
 unfoldable pub operate_on_operand_of : Mode → Access → Cpu → ℕ → List ℕ → ℕ → ℕ → StepResult
 operate_on_operand_of mode access cpu k window locked r =
     if_operand (operand_of mode cpu k window r) (stopped_of cpu 6) (λ b a d after.
-    if is_locked access a locked then stopped_of cpu 8 else access_of access after d b a)
+    when is_locked access a locked then stopped_of cpu 8 else access_of access after d b a)

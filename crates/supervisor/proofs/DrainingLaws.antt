@@ -4,7 +4,7 @@ use mathlib.Core.List.{List}
 use mathlib.Core.Path.{◌≡◌, sym, ◌∙◌}
 use native.Mathlib.Omega.{arith}
 use lib.ListN.{length}
-use Rattle.common.specs.Choice.{if◌then◌else◌}
+use Rattle.common.specs.Choice.{when◌then◌else◌}
 use Rattle.slices.specs.SliceLaws.{part_length, copied_front}
 use Rattle.slices.specs.Slices.{part_of, copied}
 use Rattle.supervisor.specs.Calls.{change, drain, refusal, drained_buffer}
@@ -19,7 +19,7 @@ pub drained_buffer_law : (x : System) (k : ℕ) (buffer : List ℕ) {n : ℕ} �
     → copied buffer 0
     (part_of x.memory (output_location (slot_of x k).partition).0 (slot_of x k).state.written)
     ≡ drained_buffer x k buffer
-unfolding written_bytes drained_buffer if◌then◌else◌
+unfolding written_bytes drained_buffer when◌then◌else◌
 drained_buffer_law x k buffer e none =
     let p : Partition = (slot_of x k).partition in
     let n : ℕ = (slot_of x k).state.written in

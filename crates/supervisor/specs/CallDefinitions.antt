@@ -1,5 +1,5 @@
 -- Names for lists of definitions, which laws and worked cases open together. Nothing here has to be believed.
-use Rattle.common.specs.Choice.{if◌then◌else◌}
+use Rattle.common.specs.Choice.{when◌then◌else◌}
 use Rattle.common.specs.ConditionDefinitions.{condition_definitions}
 use Rattle.common.specs.Repetition.{times}
 use Rattle.registers.specs.Cpu.{fresh_cpu}
@@ -34,7 +34,7 @@ patch_definitions = Unit {0}
 
 -- what a drain answers and leaves
 unfoldable pub drain_definitions : Type 0
-unfolding patch_definitions outcome_of after_call drain_patch drained_count drained_buffer if◌then◌else◌
+unfolding patch_definitions outcome_of after_call drain_patch drained_count drained_buffer when◌then◌else◌
 drain_definitions = Unit {0}
 
 -- a run of rounds

@@ -2,7 +2,7 @@
 -- changes nothing.
 use Rattle.std.specs.Prelude.{ℕ, Bool, true, false, List, ◌≡◌, refl}
 use Rattle.std.proofs.Common.{ap, ◌∙◌}
-use Rattle.common.specs.Choice.{if◌then◌else◌}
+use Rattle.common.specs.Choice.{when◌then◌else◌}
 use Rattle.queries.specs.Queries.{Query}
 use Rattle.supervisor.specs.Calls.{Call, query, run, refusal, is_accepted, after_accepted, after_call, outcome_of}
 use Rattle.system.specs.System.{outcome, System, system}
@@ -38,9 +38,9 @@ counted_patch y t next memory e f sound =
     ∙ ap (λ (z : Table). system z y.memory) (counted_by_partitions_law y.table (slots_fact y.table sound))
 
 pub query_leaves : (q : Query) (x : System) → after_call (query q) x ≡ x
-unfolding after_call after_accepted if◌then◌else◌
+unfolding after_call after_accepted when◌then◌else◌
 query_leaves q x = go (is_accepted (query q) x)
   where
-    go : (b : Bool) → (if b then x else x) ≡ x
+    go : (b : Bool) → (when b then x else x) ≡ x
     go true = refl
     go false = refl

@@ -1,7 +1,7 @@
 -- Definitions that must be believed: what is called, what refuses it, and what it leaves. A call is a change at one slot, a run, or a
 -- query; a change is one patch of that slot, with the free bytes counted where its partition changes, and a query changes nothing.
 use Rattle.std.specs.Prelude.{Bool, List, ◌++◌, ℕ, eqb, length, drop}
-use Rattle.common.specs.Choice.{if◌then◌else◌}
+use Rattle.common.specs.Choice.{when◌then◌else◌}
 use Rattle.common.specs.Refusals.{Condition, refusal_by}
 use Rattle.common.specs.declared.places.Location.{Location}
 use Rattle.pattern.specs.Reader.{parameters_of}
@@ -82,7 +82,7 @@ after_accepted (query q) x = x
 
 -- and after any call: a refused one leaves everything
 unfoldable pub after_call : Call → System → System
-after_call c x = if is_accepted c x then after_accepted c x else x
+after_call c x = when is_accepted c x then after_accepted c x else x
 
 -- what a call answers and leaves, as one value: every contract of an operation is an equation of this
 unfoldable pub outcome_of : Call → System → Outcome
@@ -92,10 +92,10 @@ outcome_of c x = record { refusal = refusal c x; after = after_call c x }
 
 -- how many bytes are drained, and the buffer afterwards; a refusal drains none and leaves it
 unfoldable pub drained_count : System → ℕ → ℕ → ℕ
-drained_count x k room = if is_accepted (change k (drain room)) x then (slot_of x k).state.written else 0
+drained_count x k room = when is_accepted (change k (drain room)) x then (slot_of x k).state.written else 0
 
 unfoldable pub drained_buffer : System → ℕ → List ℕ → List ℕ
 drained_buffer x k buffer =
-    if is_accepted (change k (drain (length buffer))) x
+    when is_accepted (change k (drain (length buffer))) x
     then written_bytes (slot_of x k) x.memory ++ drop (slot_of x k).state.written buffer
     else buffer

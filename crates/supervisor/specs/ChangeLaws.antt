@@ -9,7 +9,7 @@ use Rattle.std.proofs.lemmas.Bool.{eqb-false, not-false}
 use Rattle.std.proofs.Math.Dec.{eqb}
 use Rattle.std.proofs.Math.ListN.{length}
 use Rattle.std.proofs.lemmas.List.{length-replicate}
-use Rattle.common.specs.Choice.{if◌then◌else◌}
+use Rattle.common.specs.Choice.{when◌then◌else◌}
 use Rattle.common.specs.Layout.{layout_size}
 use Rattle.common.specs.RefusalLaws.{NoneGivesZero, given_numbered, zero_parts, none_holds, refusal_parts}
 use Rattle.common.specs.Refusals.{Condition, refusal_by}
@@ -166,26 +166,26 @@ drain_accepted x k room e none =
 
 -- a machine fed, and one drained, is sound; a status of 3, or of 4, becomes 1
 resumed_within : (reason n : ℕ) → OneTo n last_status → OneTo (resumed_status reason n) last_status
-unfolding resumed_status if◌then◌else◌
+unfolding resumed_status when◌then◌else◌
 resumed_within reason n w = go (eqb n reason)
   where
-    go : (b : Bool) → OneTo (if b then 1 else n) last_status
+    go : (b : Bool) → OneTo (when b then 1 else n) last_status
     go true = record { some = omega arith; fits = omega arith }
     go false = w
 
 resumed_left : (reason n : ℕ) → reason ≢ 1 → resumed_status reason n ≡ reason → ⊥
-unfolding resumed_status if◌then◌else◌
+unfolding resumed_status when◌then◌else◌
 resumed_left reason n h = go (eqb n reason) refl
   where
-    go : (b : Bool) → eqb n reason ≡ b → (if b then 1 else n) ≡ reason → ⊥
+    go : (b : Bool) → eqb n reason ≡ b → (when b then 1 else n) ≡ reason → ⊥
     go true e q = h (sym q)
     go false e q = eqb-false n reason e q
 
 resumed_other : (reason n i : ℕ) → i ≢ 1 → resumed_status reason n ≡ i → n ≡ i
-unfolding resumed_status if◌then◌else◌
+unfolding resumed_status when◌then◌else◌
 resumed_other reason n i h = go (eqb n reason)
   where
-    go : (b : Bool) → (if b then 1 else n) ≡ i → n ≡ i
+    go : (b : Bool) → (when b then 1 else n) ≡ i → n ≡ i
     go true q = absurd (h (sym q))
     go false q = q
 
@@ -294,10 +294,10 @@ module _ (x : System) (k : ℕ) (file : List ℕ) where
 
   -- the refusal does not depend on the location
   abbrev behind_file : ℕ
-  behind_file = if eqb (refusal_by (file_conditions file)) 0 then 12 else refusal_by (file_conditions file)
+  behind_file = when eqb (refusal_by (file_conditions file)) 0 then 12 else refusal_by (file_conditions file)
 
   abbrev far_refusal : ℕ
-  far_refusal = if eqb (refusal_by vacant_part) 0 then behind_file else refusal_by vacant_part
+  far_refusal = when eqb (refusal_by vacant_part) 0 then behind_file else refusal_by vacant_part
 
   module _ (a : Location) (far : 65536 ≤ a.0) where
     far_location : refusal_by vacant_part ≡ 0 → refusal_by (file_conditions file) ≡ 0 → refusal_by (location_part a) ≡ 12
@@ -309,20 +309,20 @@ module _ (x : System) (k : ℕ) (file : List ℕ) where
         location_far x.table k (partition_for a (parameters_of file)) (omega (arith, g.table.slots.size.fits, r.layout.window.some))
 
     far_file : refusal_by vacant_part ≡ 0 → refusal_by (file_conditions file ++ location_part a) ≡ behind_file
-    unfolding if◌then◌else◌
+    unfolding when◌then◌else◌
     far_file e = refusal_parts (file_conditions file) (location_part a) (file_numbered file) ∙ go (eqb (refusal_by (file_conditions file)) 0) refl
       where
         go : (b : Bool) → eqb (refusal_by (file_conditions file)) 0 ≡ b
-            → (if b then refusal_by (location_part a) else refusal_by (file_conditions file)) ≡ (if b then 12 else refusal_by (file_conditions file))
+            → (when b then refusal_by (location_part a) else refusal_by (file_conditions file)) ≡ (when b then 12 else refusal_by (file_conditions file))
         go true f = far_location e (eqb-true _ _ f)
         go false f = refl
 
     far_refusal_law : refusal (change k (load a file)) x ≡ far_refusal
-    unfolding refusal change_conditions if◌then◌else◌
+    unfolding refusal change_conditions when◌then◌else◌
     far_refusal_law = refusal_parts vacant_part (file_conditions file ++ location_part a) (vacant_numbered x k) ∙ go (eqb (refusal_by vacant_part) 0) refl
       where
         go : (b : Bool) → eqb (refusal_by vacant_part) 0 ≡ b
-            → (if b then refusal_by (file_conditions file ++ location_part a) else refusal_by vacant_part) ≡ (if b then behind_file else refusal_by vacant_part)
+            → (when b then refusal_by (file_conditions file ++ location_part a) else refusal_by vacant_part) ≡ (when b then behind_file else refusal_by vacant_part)
         go true e = far_file (eqb-true _ _ e)
         go false e = refl
 

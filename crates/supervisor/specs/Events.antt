@@ -1,7 +1,7 @@
 -- Definitions that must be believed: lists of calls on one table and one memory, and the rounds that they make
 -- (document 01, "The lone 2650 of demand 3").
 use Rattle.std.specs.Prelude.{◌+◌, ℕ, set, List, [], ◌∷◌}
-use Rattle.common.specs.Choice.{if◌then◌else◌}
+use Rattle.common.specs.Choice.{when◌then◌else◌}
 use Rattle.supervisor.specs.Calls.{Call, is_accepted, after_call, change, query, run}
 use Rattle.system.specs.System.{System, system}
 
@@ -28,7 +28,7 @@ rounds_of_call (run n) = n
 rounds_of_call (query q) = 0
 
 unfoldable pub rounds_of_event : Event → System → ℕ
-rounds_of_event (call c) x = if is_accepted c x then rounds_of_call c else 0
+rounds_of_event (call c) x = when is_accepted c x then rounds_of_call c else 0
 rounds_of_event (write i b) x = 0
 
 unfoldable pub rounds_of_events : List Event → System → ℕ

@@ -7,7 +7,7 @@ use Rattle.common.specs.Repetition.{times}
 use Rattle.common.specs.Layout.{layout_size}
 use Rattle.cpu.specs.Machine.{machine_of, machine_step}
 use Rattle.common.specs.RepetitionLaws.{times_add}
-use Rattle.common.specs.Choice.{if◌then◌else◌}
+use Rattle.common.specs.Choice.{when◌then◌else◌}
 use Rattle.slices.specs.SliceLaws.{part_front}
 use Rattle.slices.specs.Slices.{part_of}
 use Rattle.supervisor.specs.Calls.{Call, change, run, query, refusal, after_accepted, is_accepted, after_call}
@@ -82,10 +82,10 @@ accepted_isolates (run n) x g e = run_isolates n x g
 accepted_isolates (query q) x g e = nothing_isolates (call (query q)) x g
 
 call_isolates : (c : Call) (x : System) → SoundSystem x → EventIsolates (call c) (rounds_of_event (call c) x) x (after_call c x)
-unfolding after_call rounds_of_event if◌then◌else◌
+unfolding after_call rounds_of_event when◌then◌else◌
 call_isolates c x g = go (is_accepted c x) refl
   where
-    go : (b : Bool) → is_accepted c x ≡ b → EventIsolates (call c) (if b then rounds_of_call c else 0) x (if b then after_accepted c x else x)
+    go : (b : Bool) → is_accepted c x ≡ b → EventIsolates (call c) (when b then rounds_of_call c else 0) x (when b then after_accepted c x else x)
     go true a = accepted_isolates c x g (eqb-true (refusal c x) 0 a)
     go false a = nothing_isolates (call c) x g
 

@@ -1,6 +1,6 @@
 -- Definitions that must be believed: a table and its memory, the machine of a slot, the change of one slot, and what a call leaves.
 use Rattle.std.specs.Prelude.{ℕ, eqb, List, ◌++◌}
-use Rattle.common.specs.Choice.{if◌then◌else◌}
+use Rattle.common.specs.Choice.{when◌then◌else◌}
 use Rattle.common.specs.Layout.{layout_size}
 use Rattle.cpu.specs.Machine.{Machine, machine_of}
 use Rattle.slices.specs.Slices.{copied, part_of}
@@ -54,4 +54,4 @@ outcome n t memory = record { refusal = n; after = system t memory }
 -- the outcome of a call by its refusal, 0 for none, and by what it leaves if it is accepted. A refused call hands back the table that it was
 -- given, and changes no byte
 abbrev pub outcome_by : ℕ → System → System → Outcome
-outcome_by n accepted x = record { refusal = n; after = if eqb n 0 then accepted else x }
+outcome_by n accepted x = record { refusal = n; after = when eqb n 0 then accepted else x }

@@ -10,7 +10,7 @@ use Rattle.std.proofs.Math.Path.{refl, subst}
 use Rattle.std.proofs.Common.{sym}
 use native.Mathlib.Omega.{arith}
 use borrow.Author.Tests.{ltb-true, ltb-false, lt-ltb, le-ltb}
-use Rattle.common.specs.Choice.{if◌then◌else◌}
+use Rattle.common.specs.Choice.{when◌then◌else◌}
 use Rattle.table.specs.Extents.{extent, extent_between, lower_part, upper_part, without_partition, each_without}
 use Rattle.table.specs.FreeExtentsListed.{RisesFrom}
 use Rattle.table.specs.PartitionByteLaws.{OutsidePartition}
@@ -56,35 +56,35 @@ rises_above n (e ∷ rest) h i (inr c) = omega (arith, h.0, h.1, rises_above (e.
 
 module _ (start end : ℕ) where
   pub extent_covered : (i : ℕ) → Covered i (extent_between start end) → (start ≤ i) × (i < end)
-  unfolding extent_between if◌then◌else◌
+  unfolding extent_between when◌then◌else◌
   extent_covered i h = go (ltb start end) h
     where
-      go : (b : Bool) → Covered i (if b then extent start end ∷ [] else []) → (start ≤ i) × (i < end)
+      go : (b : Bool) → Covered i (when b then extent start end ∷ [] else []) → (start ≤ i) × (i < end)
       go true (inl u) = u
       go true (inr u) = absurd u
       go false u = absurd u
 
   pub extent_covers : (i : ℕ) → start ≤ i → i < end → Covered i (extent_between start end)
-  unfolding extent_between if◌then◌else◌
+  unfolding extent_between when◌then◌else◌
   extent_covers i p q = rw (lt-ltb start end (omega arith)) (inl (p, q))
 
   pub extent_none : end ≤ start → extent_between start end ≡ []
-  unfolding extent_between if◌then◌else◌
+  unfolding extent_between when◌then◌else◌
   extent_none h = rw (le-ltb start end h) refl
 
   pub extent_few : length (extent_between start end) ≤ 1
-  unfolding extent_between if◌then◌else◌
+  unfolding extent_between when◌then◌else◌
   extent_few = go (ltb start end)
     where
-      go : (b : Bool) → length (if b then extent start end ∷ [] else []) ≤ 1
+      go : (b : Bool) → length (when b then extent start end ∷ [] else []) ≤ 1
       go true = omega arith
       go false = omega arith
 
   extent_rises : (n : ℕ) (rest : List Extent) → n ≤ start → (start < end → RisesFrom (end + 1) rest) → (end ≤ start → RisesFrom n rest) → RisesFrom n (extent_between start end ++ rest)
-  unfolding extent_between if◌then◌else◌
+  unfolding extent_between when◌then◌else◌
   extent_rises n rest p some none = go (ltb start end) refl
     where
-      go : (b : Bool) → ltb start end ≡ b → RisesFrom n ((if b then extent start end ∷ [] else []) ++ rest)
+      go : (b : Bool) → ltb start end ≡ b → RisesFrom n ((when b then extent start end ∷ [] else []) ++ rest)
       go true e = let q : start < end = ltb-true start end e in (p, q, some q)
       go false e = none (ltb-false start end e)
 

@@ -6,7 +6,7 @@ use Rattle.std.proofs.Common.{inl, inr, ⊎_elim, ap, ltb-false}
 use Rattle.std.proofs.Math.Path.{refl}
 use Rattle.std.proofs.Math.Decide.{dec_le}
 use native.Mathlib.Omega.{arith}
-use Rattle.common.specs.Choice.{if◌then◌else◌}
+use Rattle.common.specs.Choice.{when◌then◌else◌}
 use Rattle.table.specs.ExtentLaws.{InExtent, Covered, rises_above}
 use Rattle.table.specs.Extents.{extent, extent_size, extent_between, lower_part, upper_part, without_partition, each_without, extents_total, widest_of}
 use Rattle.table.specs.FreeExtentsListed.{◌IsOneOf◌, RisesFrom}
@@ -21,10 +21,10 @@ total_parts [] m = omega arith
 total_parts (e ∷ l) m = omega (arith, total_parts l m)
 
 pub extent_total : (start end : ℕ) → extents_total (extent_between start end) ≡ end - start
-unfolding extent_between if◌then◌else◌
+unfolding extent_between when◌then◌else◌
 extent_total start end = go (ltb start end) refl
   where
-    go : (b : Bool) → ltb start end ≡ b → extents_total (if b then extent start end ∷ [] else []) ≡ end - start
+    go : (b : Bool) → ltb start end ≡ b → extents_total (when b then extent start end ∷ [] else []) ≡ end - start
     go true e = omega arith
     go false e = omega (arith, ltb-false start end e)
 

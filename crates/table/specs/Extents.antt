@@ -1,7 +1,7 @@
 -- Definitions that must be believed: the free extents of a memory, worked out from the partitions (document 02, U2: a free stretch).
 -- FreeExtentsListed.antt says in terms of bytes what a free extent is; ExtentsTheorem.antt shows that the list here has exactly those.
 use Rattle.std.specs.Prelude.{ℕ, zero, suc, ◌-◌, max, min, ltb, List, [], ◌∷◌, ◌++◌, map}
-use Rattle.common.specs.Choice.{if◌then◌else◌}
+use Rattle.common.specs.Choice.{when◌then◌else◌}
 use Rattle.common.specs.Totals.{total_of}
 use Rattle.table.specs.Table.{is_loaded, partition_end, slot_at}
 use Rattle.table.specs.declared.extents.Extent.{Extent}
@@ -14,7 +14,7 @@ extent start end = record { start = start; end = end }
 
 -- the same as a list: of one extent, or of none if there is no byte
 unfoldable pub extent_between : ℕ → ℕ → List Extent
-extent_between start end = if ltb start end then extent start end ∷ [] else []
+extent_between start end = when ltb start end then extent start end ∷ [] else []
 
 -- no byte, at 0
 abbrev pub empty_extent : Extent
@@ -43,7 +43,7 @@ each_without p (e ∷ rest) = without_partition p e ++ each_without p rest
 -- what is left of the memory without the partitions of the slots below n
 unfoldable pub without_slots_below : Table → ℕ → List Extent
 without_slots_below t zero = extent_between 0 t.size
-without_slots_below t (suc n) = if is_loaded t n then each_without (slot_at t n).partition (without_slots_below t n) else without_slots_below t n
+without_slots_below t (suc n) = when is_loaded t n then each_without (slot_at t n).partition (without_slots_below t n) else without_slots_below t n
 
 -- the free extents: what is left without the partitions of all eight slots
 abbrev pub free_extents : Table → List Extent

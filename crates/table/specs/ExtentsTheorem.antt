@@ -8,7 +8,7 @@ use Rattle.std.proofs.Math.Path.{refl, ap}
 use Rattle.std.proofs.Math.Decide.{ℕ_discrete, dec_le, dec_lt}
 use native.Mathlib.Omega.{arith}
 use Rattle.std.proofs.lemmas.Bool.{not-false, not-true}
-use Rattle.common.specs.Choice.{if◌then◌else◌}
+use Rattle.common.specs.Choice.{when◌then◌else◌}
 use Rattle.common.specs.Layout.{layout_size}
 use Rattle.common.specs.Totals.{total_below}
 use Rattle.table.specs.ExtentLaws.{Covered, rises_above, extent_covered, extent_covers, extent_rises_alone, each_covered, each_covers, each_rises}
@@ -110,20 +110,20 @@ module _ (t : Table) where
       go k q (no r) = h.1 k (omega arith)
 
   below_covers : (n i : ℕ) → FreeBelow n i → Covered i (without_slots_below t n)
-  unfolding without_slots_below if◌then◌else◌
+  unfolding without_slots_below when◌then◌else◌
   below_covers zero i h = extent_covers 0 t.size i (omega arith) h.0
   below_covers (suc n) i h = go (is_loaded t n) refl (below_covers n i (h.0, λ k q. h.1 k (omega arith)))
     where
-      go : (b : Bool) → is_loaded t n ≡ b → Covered i (without_slots_below t n) → Covered i (if b then each_without (slot_at t n).partition (without_slots_below t n) else without_slots_below t n)
+      go : (b : Bool) → is_loaded t n ≡ b → Covered i (without_slots_below t n) → Covered i (when b then each_without (slot_at t n).partition (without_slots_below t n) else without_slots_below t n)
       go true e c = each_covers (slot_at t n).partition i (without_slots_below t n) c (outside_partition (slot_at t n) i (h.1 n (omega arith)) (not-true (is_empty (slot_at t n)) e))
       go false e c = c
 
   below_covered : (n i : ℕ) → Covered i (without_slots_below t n) → FreeBelow n i
-  unfolding without_slots_below if◌then◌else◌
+  unfolding without_slots_below when◌then◌else◌
   below_covered zero i c = ((extent_covered 0 t.size i c).1, λ k q. absurd (omega arith))
   below_covered (suc n) i c = go (is_loaded t n) refl c (below_covered n i)
     where
-      go : (b : Bool) → is_loaded t n ≡ b → Covered i (if b then each_without (slot_at t n).partition (without_slots_below t n) else without_slots_below t n)
+      go : (b : Bool) → is_loaded t n ≡ b → Covered i (when b then each_without (slot_at t n).partition (without_slots_below t n) else without_slots_below t n)
           → (Covered i (without_slots_below t n) → FreeBelow n i) → FreeBelow (suc n) i
       go true e c further = let (before, outside) = each_covered (slot_at t n).partition i (without_slots_below t n) c in one_more n i (further before) (outside_in_none (slot_at t n) i outside)
       go false e c further = one_more n i (further c) (empty_in_none (slot_at t n) i (not-false (is_empty (slot_at t n)) e))
@@ -134,11 +134,11 @@ module _ (t : Table) where
     partition_bytes_law k q e = omega (arith, (loaded_slot_law t.size (slot_at t k) (sound.each k q) (not-true (is_empty (slot_at t k)) e)).partition.layout.window.some)
 
     pub below_rises : (n : ℕ) → n ≤ 8 → RisesFrom 0 (without_slots_below t n)
-    unfolding without_slots_below if◌then◌else◌
+    unfolding without_slots_below when◌then◌else◌
     below_rises zero q = extent_rises_alone 0 t.size
     below_rises (suc n) q = go (is_loaded t n) refl (below_rises n (omega arith))
       where
-        go : (b : Bool) → is_loaded t n ≡ b → RisesFrom 0 (without_slots_below t n) → RisesFrom 0 (if b then each_without (slot_at t n).partition (without_slots_below t n) else without_slots_below t n)
+        go : (b : Bool) → is_loaded t n ≡ b → RisesFrom 0 (without_slots_below t n) → RisesFrom 0 (when b then each_without (slot_at t n).partition (without_slots_below t n) else without_slots_below t n)
         go true e h = each_rises (slot_at t n).partition (partition_bytes_law n (omega arith) e) 0 (without_slots_below t n) h
         go false e h = h
 
@@ -155,12 +155,12 @@ module _ (t : Table) where
             (apart_cases (slot_at t k).partition (slot_at t n).partition (sound.disjoint k n (omega arith) q (λ s. omega arith)))
 
     below_total : (n : ℕ) → n ≤ 8 → extents_total (without_slots_below t n) + total_below n (λ k. layout_size (slot_at t k).partition.layout) ≡ t.size
-    unfolding without_slots_below total_below if◌then◌else◌
+    unfolding without_slots_below total_below when◌then◌else◌
     below_total zero q = omega (arith, extent_total 0 t.size)
     below_total (suc n) q = go (is_loaded t n) refl (below_total n (omega arith))
       where
         go : (b : Bool) → is_loaded t n ≡ b → extents_total (without_slots_below t n) + total_below n (λ k. layout_size (slot_at t k).partition.layout) ≡ t.size
-            → extents_total (if b then each_without (slot_at t n).partition (without_slots_below t n) else without_slots_below t n)
+            → extents_total (when b then each_without (slot_at t n).partition (without_slots_below t n) else without_slots_below t n)
             + (total_below n (λ k. layout_size (slot_at t k).partition.layout) + layout_size (slot_at t n).partition.layout) ≡ t.size
         go true e further =
             omega (arith, each_total (slot_at t n).partition (partition_bytes_law n (omega arith) e) 0 (without_slots_below t n) (below_rises n (omega arith)) (partition_covered n (omega arith) e))

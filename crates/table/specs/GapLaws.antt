@@ -10,7 +10,7 @@ use Rattle.std.proofs.Math.Path.{refl, ap, subst}
 use Rattle.std.proofs.Common.{◌∙◌, le_antisymm, add-one, ltb-true, ltb-false}
 use Rattle.std.proofs.Math.Decide.{dec_le, dec_lt}
 use native.Mathlib.Omega.{arith}
-use Rattle.common.specs.Choice.{if◌then◌else◌}
+use Rattle.common.specs.Choice.{when◌then◌else◌}
 use Rattle.table.specs.ExtentLaws.{Covered, rises_above}
 use Rattle.table.specs.ExtentTotalLaws.{widest_less}
 use Rattle.table.specs.Extents.{extent_size, extents_total, without_slots_below, free_extents, free_total, widest_of, widest_extent}
@@ -29,28 +29,28 @@ use Rattle.table.specs.declared.table.Table.{Table}
 
 module _ (p : Partition) (from end : ℕ) where
   end_falls : end_before p from end ≤ end
-  unfolding end_before if◌then◌else◌
+  unfolding end_before when◌then◌else◌
   end_falls = go (ltb from (partition_end p))
     where
-      go : (b : Bool) → (if b then min end p.base.0 else end) ≤ end
+      go : (b : Bool) → (when b then min end p.base.0 else end) ≤ end
       go true = omega arith
       go false = omega arith
 
   -- it ends before the partition, or starts behind it
   end_outside : (partition_end p ≤ from) ⊎ (end_before p from end ≤ p.base.0)
-  unfolding end_before if◌then◌else◌
+  unfolding end_before when◌then◌else◌
   end_outside = go (ltb from (partition_end p)) refl
     where
-      go : (b : Bool) → ltb from (partition_end p) ≡ b → (partition_end p ≤ from) ⊎ ((if b then min end p.base.0 else end) ≤ p.base.0)
+      go : (b : Bool) → ltb from (partition_end p) ≡ b → (partition_end p ≤ from) ⊎ ((when b then min end p.base.0 else end) ≤ p.base.0)
       go true e = inr (omega arith)
       go false e = inl (ltb-false from (partition_end p) e)
 
   -- and not before it must
   end_least : (m : ℕ) → m ≤ end → (from < partition_end p → m ≤ p.base.0) → m ≤ end_before p from end
-  unfolding end_before if◌then◌else◌
+  unfolding end_before when◌then◌else◌
   end_least m low before = go (ltb from (partition_end p)) refl
     where
-      go : (b : Bool) → ltb from (partition_end p) ≡ b → m ≤ (if b then min end p.base.0 else end)
+      go : (b : Bool) → ltb from (partition_end p) ≡ b → m ≤ (when b then min end p.base.0 else end)
       go true e = omega (arith, before (ltb-true from (partition_end p) e))
       go false e = low
 

@@ -1,7 +1,7 @@
 -- What private code is held to, and `count_free`: how it counts the free bytes, without a list of extents. Nothing here has to be believed:
 -- GapLaws.antt shows that it counts `free_total` and `widest_extent` if the slots are sound.
 use Rattle.std.specs.Prelude.{ℕ, zero, suc, ◌-◌, max, min, ltb}
-use Rattle.common.specs.Choice.{if◌then◌else◌}
+use Rattle.common.specs.Choice.{when◌then◌else◌}
 use Rattle.common.specs.Layout.{layout_size}
 use Rattle.table.specs.Table.{partition_end, slot_at, with_free_bytes}
 use Rattle.table.specs.declared.table.Partition.{Partition}
@@ -15,7 +15,7 @@ bytes_left_below t (suc n) = bytes_left_below t n - layout_size (slot_at t n).pa
 -- where a run of bytes from `from` on ends: at `end`, or where the partition starts, if that is lower. A partition that ends at `from` or
 -- below does not count
 unfoldable pub end_before : Partition → (from end : ℕ) → ℕ
-end_before p from end = if ltb from (partition_end p) then min end p.base.0 else end
+end_before p from end = when ltb from (partition_end p) then min end p.base.0 else end
 
 -- where the run from `from` on ends, by the partitions of the slots below n
 unfoldable pub gap_end_below : Table → ℕ → ℕ → ℕ

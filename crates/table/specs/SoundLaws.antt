@@ -8,7 +8,7 @@ use Rattle.std.proofs.Math.Decide.{ℕ_discrete, dec_lt}
 use borrow.Author.Tests.{leb-true, le-leb, ltb-true, lt-ltb, eqb-true, eq-eqb, ne_eqb}
 use Rattle.std.proofs.Math.ListN.{length-set, get_or-eq_default}
 use Rattle.std.proofs.Math.Seq.{get_or-set_same, get_or-set_other}
-use Rattle.common.specs.Choice.{if◌then◌else◌}
+use Rattle.common.specs.Choice.{when◌then◌else◌}
 use Rattle.common.specs.LayoutLaws.{LayoutSound, layout_fact, layout_test}
 use Rattle.common.specs.Layout.{layout_size}
 use Rattle.common.specs.TestLaws.{and_fact, and_test, or_fact, or_left, or_right, when_fact, when_test, OneTo, one_to_fact, one_to_test, all_fact, all_test, below_fact, below_test}
@@ -271,7 +271,7 @@ unfolding without_slots_below
 extents_alike t u size empty partition zero = rw size
 extents_alike t u size empty partition (suc n) =
     let before : without_slots_below t n ≡ without_slots_below u n = extents_alike t u size empty partition n in
-    λ i. if not (empty n i) then each_without (partition n i) (before i) else before i
+    λ i. when not (empty n i) then each_without (partition n i) (before i) else before i
 
 -- ---- a sound table
 

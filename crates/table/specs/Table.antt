@@ -1,6 +1,6 @@
 -- Definitions that must be believed: slots, partitions, which bytes are in one, and a new table (document 01, "Floor and bays").
 use Rattle.std.specs.Prelude.{◌+◌, ◌<◌, ℕ, eqb, leb, ltb, get_or, length, replicate, set, Bool, ◌&&◌, false, not, [], ◌∷◌, ◌≡◌}
-use Rattle.common.specs.Choice.{if◌then◌else◌}
+use Rattle.common.specs.Choice.{when◌then◌else◌}
 use Rattle.common.specs.Layout.{layout_size}
 use Rattle.common.specs.Ranges.{is_one_to}
 use Rattle.common.specs.Refusals.{◌gives◌, refusal_by}
@@ -70,4 +70,4 @@ new_refusal length = refusal_by (not (is_one_to length 65536) gives 2 ∷ [])
 
 -- document 01's fresh record: all slots empty; a refused one is all zero
 unfoldable pub new_table : ℕ → Table
-new_table length = empty_table (if eqb (new_refusal length) 0 then length else 0)
+new_table length = empty_table (when eqb (new_refusal length) 0 then length else 0)

@@ -4,7 +4,7 @@ use Rattle.std.proofs.Math.Bool.{true, false, not}
 use Rattle.std.proofs.Math.Path.{◌≡◌, refl}
 use Rattle.std.proofs.Common.{sym, ◌∙◌, arith, ltb-false}
 use Rattle.std.proofs.lemmas.Bool.{not-false}
-use Rattle.common.specs.Choice.{if◌then◌else◌}
+use Rattle.common.specs.Choice.{when◌then◌else◌}
 use Rattle.common.specs.ConditionDefinitions.{condition_definitions}
 use Rattle.common.specs.RefusalLaws.{NoneHolds, NoneGivesZero, zero_parts, none_holds}
 use Rattle.common.specs.Refusals.{refusal_by}
@@ -56,27 +56,27 @@ loaded_holds t k s h =
 
 -- a table is refused by 1 exactly if it is unsound
 module _ (t : Table) {n : ℕ} (e : n ≡ refusal_by (table_conditions t)) where
-  table_answer : n ≡ (if table_sound t then 0 else 1)
+  table_answer : n ≡ (when table_sound t then 0 else 1)
   unfolding table_conditions condition_definitions
   table_answer = e ∙ go (table_sound t)
     where
-      go : (b : Bool) → ◌≡◌ {A = ℕ} (if not b then 1 else 0) (if b then 0 else 1)
+      go : (b : Bool) → ◌≡◌ {A = ℕ} (when not b then 1 else 0) (when b then 0 else 1)
       go true = refl
       go false = refl
 
   pub table_accepted : n ≡ 0 → table_sound t ≡ true
-  unfolding if◌then◌else◌
+  unfolding when◌then◌else◌
   table_accepted none = go (table_sound t) refl table_answer
     where
-      go : (b : Bool) → table_sound t ≡ b → n ≡ (if b then 0 else 1) → table_sound t ≡ true
+      go : (b : Bool) → table_sound t ≡ b → n ≡ (when b then 0 else 1) → table_sound t ≡ true
       go true h a = h
       go false h a = absurd (omega arith)
 
   pub table_refused : (n ≡ 0 → ⊥) → (n ≡ 1) × (table_sound t ≡ false)
-  unfolding if◌then◌else◌
+  unfolding when◌then◌else◌
   table_refused some = go (table_sound t) refl table_answer
     where
-      go : (b : Bool) → table_sound t ≡ b → n ≡ (if b then 0 else 1) → (n ≡ 1) × (table_sound t ≡ false)
+      go : (b : Bool) → table_sound t ≡ b → n ≡ (when b then 0 else 1) → (n ≡ 1) × (table_sound t ≡ false)
       go true h a = absurd (some a)
       go false h a = (a, h)
 

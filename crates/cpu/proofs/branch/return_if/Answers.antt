@@ -1,10 +1,10 @@
 use Rattle.cpu.specs.Branch.{return_if_of}
-use Rattle.common.specs.Choice.{if◌then◌else◌}
+use Rattle.common.specs.Choice.{when◌then◌else◌}
 use Rattle.std.proofs.Common.{sym, ◌∙◌}
 use Rattle.cpu.proofs.branch.return_if.Goals as goal
 
 pub returns-then-condition_met : goal.returns-then-condition_met
-unfolding return_if_of if◌then◌else◌
+unfolding return_if_of when◌then◌else◌
 returns-then-condition_met c = rw (
   ← c.psl.ensures,
   sym c.condition_met.ensures ∙ c.if-condition_met.true,
@@ -13,7 +13,7 @@ returns-then-condition_met c = rw (
 )
 
 pub returns-else-condition_met : goal.returns-else-condition_met
-unfolding return_if_of if◌then◌else◌
+unfolding return_if_of when◌then◌else◌
 returns-else-condition_met c = rw (
   ← c.psl.ensures,
   sym c.condition_met.ensures ∙ c.if-condition_met.false,

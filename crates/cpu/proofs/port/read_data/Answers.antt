@@ -1,10 +1,10 @@
-use Rattle.common.specs.Choice.{if◌then◌else◌}
+use Rattle.common.specs.Choice.{when◌then◌else◌}
 use Rattle.cpu.specs.PortView.{ports_of_view}
 use Rattle.cpu.specs.Port.{read_data_of}
 use Rattle.cpu.proofs.port.read_data.Goals as goal
 
 pub returns-then-o : goal.returns-then-o
-unfolding read_data_of ports_of_view if◌then◌else◌
+unfolding read_data_of ports_of_view when◌then◌else◌
 returns-then-o c = rw (
   c.if-o.true,
   ← c.byte_or_zero-b.ensures,
@@ -14,7 +14,7 @@ returns-then-o c = rw (
 )
 
 pub returns-else-o : goal.returns-else-o
-unfolding read_data_of ports_of_view if◌then◌else◌
+unfolding read_data_of ports_of_view when◌then◌else◌
 returns-else-o c = rw (
   c.if-o.false,
   ← c.stopped.ensures,

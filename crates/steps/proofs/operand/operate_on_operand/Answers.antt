@@ -2,7 +2,7 @@ use Rattle.steps.specs.OperandLaws.{read_free, store_free, store_locked}
 use Rattle.std.proofs.Common.{◌≡◌, ◌%◌, sym, ap, ◌∙◌, arith}
 use Rattle.steps.specs.PackedStepLaws.{stored_byte}
 use Rattle.steps.specs.PackedStep.{operand_result_of}
-use Rattle.common.specs.Choice.{if◌then◌else◌}
+use Rattle.common.specs.Choice.{when◌then◌else◌}
 use Rattle.steps.specs.Operand.{operate_on_operand_of}
 use Rattle.steps.proofs.operand.operate_on_operand.Goals as goal
 
@@ -14,7 +14,7 @@ returns-in_default c = rw (
 )
 
 pub returns-then-a-locked : goal.returns-then-a-locked
-unfolding operate_on_operand_of if◌then◌else◌
+unfolding operate_on_operand_of when◌then◌else◌
 returns-then-a-locked c = rw (
   sym c.operand_of.ensures ∙ ap (operand_result_of _) c.in-Ready.is,
   c.in-Write.is,
@@ -23,7 +23,7 @@ returns-then-a-locked c = rw (
 )
 
 pub returns-in-Read : goal.returns-in-Read
-unfolding operate_on_operand_of if◌then◌else◌
+unfolding operate_on_operand_of when◌then◌else◌
 returns-in-Read c = rw (
   sym c.operand_of.ensures ∙ ap (operand_result_of _) c.in-Ready.is,
   c.in-Read.is,
@@ -33,7 +33,7 @@ returns-in-Read c = rw (
 )
 
 pub returns-else-a-locked : goal.returns-else-a-locked
-unfolding operate_on_operand_of if◌then◌else◌
+unfolding operate_on_operand_of when◌then◌else◌
 returns-else-a-locked c = let e : c.register-v.result % 256 ≡ c.register-v.result = omega (arith, c.register-v.type_inv) in
     rw (
       sym c.operand_of.ensures ∙ ap (operand_result_of _) c.in-Ready.is,
