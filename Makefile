@@ -2,11 +2,10 @@
 
 # what takes seconds, and fails before a proof begins
 lint:
-	tools/proofkit current
 	tools/unused
 	tools/names
 	tools/edits
-	rt fmt --check
+	tools/layout
 
 # lint, the tools' tests, and the archive: proved, and compared with the reference
 check: lint tools

@@ -1,6 +1,7 @@
 """The crate of small/, laid out as a project.
 
-Its files are stored with the ending .txt: a file of Rattle outside crates/, and a second crates.txt, are errors to `rt`.
+Its files are stored with the ending .txt: a file of Rattle outside crates/, and a second
+crates.txt, are errors to `rt`.
 """
 import os
 

@@ -61,8 +61,12 @@ class Fits(Project):
         self.assert_refused("file: src/none.rt\nold: 1\nnew: 2\n", "there is no src/none.rt")
 
     def test_a_proof_is_no_file_of_an_edit(self):
-        write(self.root + "/crates/a/proofs/one/Proof.antt", "x\n")
-        self.assert_refused("file: proofs/one/Proof.antt\nold: x\nnew: y\n", "there is no proofs/")
+        write(self.root + "/crates/a/proofs/one/Answers.antt", "x\n")
+        self.assert_refused("file: proofs/one/Answers.antt\nold: x\nnew: y\n",
+                            "there is no proofs/")
+
+    def test_an_edit_that_changes_nothing(self):
+        self.assert_refused("file: src/lib.rt\nold:     1\nnew:     1\n", "it changes nothing")
 
     def test_an_edit_without_a_pair(self):
         self.assert_refused("Only words.\n", "it has no pair of `old:` and `new:`")
@@ -89,8 +93,9 @@ class Tried(Project):
     def test_an_edit_that_is_refused_shows_its_first_error(self):
         said = self.try_edit("{ x + 1 } else", "{ x + 2 } else")
         self.assertEqual(said.returncode, 0, said.stdout + said.stderr)
-        self.assertIn("must-fail small/one: refused, as it must be", said.stdout)
-        self.assertIn("proofs/next/Proof.antt", said.stdout)
+        self.assertIn("must-fail small/one.edit: refused, as it must be: ", said.stdout)
+        self.assertIn("the first error of crates/small/out/must-fail/one.log:\n    ./proofs/next/"
+                      "Answers.antt:8:", said.stdout)
         self.assertNotIn("small/bad", said.stdout)
 
     def test_an_edit_that_is_not_refused(self):

@@ -59,8 +59,13 @@ class Names(Case):
         self.assertEqual(len(rows), 1)
 
     def test_a_proof_of_a_function_does_not(self):
-        files = {"a/specs/One.antt": laws("x"), "a/proofs/f/Proof.antt": laws("x")}
-        self.assertEqual(self.rows(files), [])
+        files = {f"a/proofs/{fn}/{part}.antt": laws("x")
+                 for fn in "fg" for part in ("Answers", "Invariants", "Proof")}
+        self.assertEqual(self.rows({"a/specs/One.antt": laws("x"), **files}), [])
+
+    def test_a_law_beside_a_proof_counts(self):
+        rows = self.rows({"a/specs/One.antt": laws("x"), "a/proofs/f/Steps.antt": laws("x")})
+        self.assertEqual(len(rows), 1)
 
     def test_a_constructor_counts(self):
         data = DEFINITIONS + "pub data D : Type 0 where\n  x : D\n"
@@ -89,28 +94,33 @@ class Names(Case):
 class Functions(Case):
     """A function that has a definition's name is held to it."""
 
-    def rows_of(self, contract, definition="runQuantum"):
+    def rows_of(self, contract, definition="run_quantum"):
         code = f"// fn gone() {{}}\nfn run_quantum() -> u8\n    {contract}\n{{\n    0\n}}\n"
         return self.rows({"a/src/lib.rt": code, "a/specs/Lib.antt": laws(definition, "gone")})
 
     def test_another_definition_is_cited(self):
-        rows = self.rows_of("ensures { λ r. ⌜ r ≡ afterQuantum ⌝ }")
-        self.assertEqual(rows, ["crates/a/src/lib.rt:2: fn run_quantum is not held to runQuantum "
+        rows = self.rows_of("ensures { result ≡ after_quantum }")
+        self.assertEqual(rows, ["crates/a/src/lib.rt:2: fn run_quantum is not held to run_quantum "
                                 "of crates/a/specs/Lib.antt:2"])
 
     def test_the_definition_with_of(self):
-        self.assertEqual(len(self.rows_of("", "runQuantumOf")), 1)
+        self.assertEqual(len(self.rows_of("", "run_quantum_of")), 1)
 
     def test_the_definition_is_cited(self):
-        for name in ("runQuantum", "runQuantumOf"):
-            self.assertEqual(self.rows_of(f"ensures {{ λ r. ⌜ r ≡ {name} ⌝ }}", name), [])
+        for name in ("run_quantum", "run_quantum_of"):
+            self.assertEqual(self.rows_of(f"ensures {{ result ≡ {name} }}", name), [])
+
+    def test_the_name_of_a_clause_and_a_field_do_not_count(self):
+        contract = "requires run_quantum { a }\n    ensures run_quantum { result.run_quantum ≡ 1 }"
+        self.assertEqual(len(self.rows_of(contract)), 1)
 
     def test_the_contract_of_the_next_function_does_not_count(self):
-        next_one = "{\n    0\n}\nfn other() -> u8\n    ensures { λ r. ⌜ r ≡ runQuantum ⌝ }"
+        next_one = "{\n    0\n}\nfn other() -> u8\n    ensures { result ≡ run_quantum }"
         self.assertEqual(len(self.rows_of(next_one)), 1)
 
     def test_a_definition_of_another_crate(self):
-        files = {"a/src/lib.rt": "fn run_quantum() {\n}\n", "b/specs/Two.antt": laws("runQuantum")}
+        files = {"a/src/lib.rt": "fn run_quantum() {\n}\n",
+                 "b/specs/Two.antt": laws("run_quantum")}
         self.assertEqual(self.rows(files), [])
 
 
@@ -125,6 +135,11 @@ class Files(Case):
         rows = self.rows({"a/specs/Calls.antt": laws("x"), "b/proofs/Calls.antt": laws("y")})
         self.assertEqual(len(rows), 1)
 
+    def test_files_of_proofs_that_many_functions_have(self):
+        files = {f"{crate}/proofs/f/{part}.antt": "" for crate in "ab"
+                 for part in ("Answers", "Invariants", "Proof")}
+        self.assertEqual(self.rows(files), [])
+
     def test_files_that_many_crates_have(self):
         files = {"a/src/lib.rt": "", "b/src/lib.rt": "", "a/specs/Lib.antt": "",
                  "b/specs/Lib.antt": "", "a/specs/Cases.antt": laws("x"),
@@ -132,20 +147,20 @@ class Files(Case):
         self.assertEqual(self.rows(files), [])
 
     def test_code_without_definitions_of_its_name(self):
-        code = "ghost use Rattle·a·specs.specs.Other.{x};\nfn f() {\n}\n"
+        code = "ghost use Rattle.a.specs.Other.{x};\nfn f() {\n}\n"
         rows = self.rows({"a/src/packed_cpu.rt": code, "a/specs/Other.antt": laws("x")})
         self.assertEqual(rows, ["crates/a/src/packed_cpu.rt: cites definitions of specs/, where no "
                                 "PackedCpu.antt stands"])
 
     def test_code_with_definitions_of_its_name(self):
-        code = "ghost use Rattle·a·specs.specs.Other.{x};\nfn f() {\n}\n"
+        code = "ghost use Rattle.a.specs.Other.{x};\nfn f() {\n}\n"
         files = {"a/src/packed_cpu.rt": code, "a/specs/Other.antt": laws("x"),
                  "a/specs/PackedCpu.antt": laws("y")}
         self.assertEqual(self.rows(files), [])
 
     def test_code_that_cites_other_crates_and_its_own_structs(self):
-        code = ("ghost use Rattle·b.specs.Other.{x};\n"
-                "ghost use Rattle·a·specs.specs.declared.table.Table.{Table};\nfn f() {\n}\n")
+        code = ("ghost use Rattle.b.specs.Other.{x};\n"
+                "ghost use Rattle.a.specs.declared.table.Table.{Table};\nfn f() {\n}\n")
         self.assertEqual(self.rows({"a/src/table.rt": code, "b/specs/Other.antt": laws("x")}), [])
 
 
@@ -156,14 +171,28 @@ class Pages(Case):
         page = self.root / path
         page.parent.mkdir(exist_ok=True)
         page.write_text(text, encoding="utf-8")
-        return self.rows({"a/src/alu.rt": "fn add() {\n}\n", "a/specs/Alu.antt": laws("sum-of")})
+        return self.rows({"a/src/alu.rt": "fn add() {\n}\n",
+                          "a/specs/Alu.antt": laws("sum_of", "returns-then-x")})
 
     def test_names_that_there_are(self):
-        self.assertEqual(self.rows_of("`add` and `sum-of` are in `a/src/` and `a/specs/Alu`."), [])
+        text = "`add`, `sum_of` and `returns-then-x` are in `a/src/` and `a/specs/Alu`."
+        self.assertEqual(self.rows_of(text), [])
 
     def test_a_name_that_is_gone(self):
-        rows = self.rows_of("One line.\nThe law `sum-gone add` is a law.\n")
-        self.assertEqual(rows, ["docs/REVIEW.md:2: sum-gone stands in no file of the project"])
+        for name in ("sum_gone", "returns-then-y"):
+            rows = self.rows_of(f"One line.\nThe law `{name} add` is a law.\n")
+            self.assertEqual(rows, [f"docs/REVIEW.md:2: {name} stands in no file of the project"])
+
+    def test_a_name_that_only_the_list_of_old_names_has(self):
+        for path, rows in (("tools/respell", 1), ("tools/other", 0)):
+            (self.root / "tools").mkdir(exist_ok=True)
+            (self.root / path).write_text("sum_gone", encoding="utf-8")
+            self.assertEqual(len(self.rows_of("`sum_gone`")), rows)
+
+    def test_a_name_that_stands_only_in_what_rt_makes(self):
+        (self.root / "crates/a/out").mkdir(parents=True)
+        (self.root / "crates/a/out/log.txt").write_text("sum_gone", encoding="utf-8")
+        self.assertEqual(len(self.rows_of("`sum_gone`")), 1)
 
     def test_a_name_that_only_another_page_has(self):
         (self.root / "README.md").write_text("the gone one", encoding="utf-8")
@@ -177,15 +206,15 @@ class Pages(Case):
         self.assertEqual(self.rows_of("`..Gone`, `gone..` and `gone_..`"), [])
 
     def test_a_name_in_another_file(self):
-        rows = self.rows_of("The law\n`add`, `sum-of` in\n`a/src/alu.rt` is told.")
-        self.assertEqual(rows, ["docs/REVIEW.md:3: sum-of does not stand in crates/a/src/alu.rt"])
+        rows = self.rows_of("The law\n`add`, `sum_of` in\n`a/src/alu.rt` is told.")
+        self.assertEqual(rows, ["docs/REVIEW.md:3: sum_of does not stand in crates/a/src/alu.rt"])
 
     def test_names_in_a_file_without_its_ending(self):
-        self.assertEqual(self.rows_of("`sum-of` in `a/specs/Alu`"), [])
-        self.assertEqual(len(self.rows_of("`add` and `sum-of` in `a/specs/Alu`")), 1)
+        self.assertEqual(self.rows_of("`sum_of` in `a/specs/Alu`"), [])
+        self.assertEqual(len(self.rows_of("`add` and `sum_of` in `a/specs/Alu`")), 1)
 
     def test_a_path_that_is_gone(self):
-        there = "In `a/src/alu.rt`, `specs/Alu`, `a/src/` and `target/a/b`."
+        there = "In `a/src/alu.rt`, `specs/Alu`, `a/src/`, `crates/a/out/liba.a` and `out/a`."
         self.assertEqual(self.rows_of(there), [])
         rows = self.rows_of("One line.\nIt is in `a/src/sum.rt`.")
         self.assertIn("docs/REVIEW.md:2: a/src/sum.rt is no file of the project", rows)

@@ -14,7 +14,7 @@ PRIVATE = "-- What private code is held to: some.\n"
 
 def code(contract, uses=""):
     """A Rattle file with one function."""
-    return f"{uses}fn f(n: u8) -> u8\n    ensures {{ λ r. {contract} }}\n{{\n    n\n}}\n"
+    return f"{uses}fn f(n: u8) -> u8\n    ensures {{ {contract} }}\n{{\n    n\n}}\n"
 
 
 def laws(*names):
@@ -58,7 +58,7 @@ class Rows(Case):
 
     def test_nothing_unused(self):
         self.write({
-            "crates/a/src/lib.rt": code("⌜ p r ⌝", "ghost use Rattle·a·specs.specs.D.{p};\n"),
+            "crates/a/src/lib.rt": code("p result", "ghost use Rattle.a.specs.D.{p};\n"),
             "crates/a/specs/D.antt": DEFINITIONS + "pub p : ℕ\np = 1\n",
         })
         done = self.run_tool()
@@ -101,31 +101,50 @@ class Reached(Case):
 
     def test_what_only_unused_things_use_is_unused(self):
         text = LAWS + "a : ℕ\na = 1\n\nb : ℕ\nb = a\n\nc : ℕ\nc = 1\n"
-        proof = "use Rattle·a·specs.specs.L.{c}\n\npub f-spec : ℕ\nf-spec = c\n"
-        files = {"crates/a/specs/L.antt": text, "crates/a/proofs/f/Proof.antt": proof}
-        self.assertEqual(self.names(files), ["a", "b"])
+        for part, name in (("Answers", "returns"), ("Invariants", "invariant-loop-i"),
+                           ("Proof", "f_spec")):
+            proof = f"use Rattle.a.specs.L.{{c}}\n\npub {name} : ℕ\n{name} = c\n"
+            files = {"crates/a/specs/L.antt": text, f"crates/a/proofs/f/{part}.antt": proof}
+            with self.subTest(part):
+                self.assertEqual(self.names(files), ["a", "b"])
+                (self.root / f"crates/a/proofs/f/{part}.antt").unlink()
 
     def test_an_unused_import_is_no_use(self):
         self.assertEqual(self.names({
             "crates/a/specs/D.antt": DEFINITIONS + "pub p : ℕ\np = 1\n",
-            "crates/a/proofs/f/Proof.antt": "use Rattle·a·specs.specs.D.{p}\n\nf : ℕ\nf = 1\n",
+            "crates/a/proofs/f/Answers.antt": "use Rattle.a.specs.D.{p}\n\nf : ℕ\nf = 1\n",
         }), ["p", "p"])
 
     def test_one_name_in_two_crates(self):
-        files = {"crates/b/proofs/f/Proof.antt": "use Rattle·a.specs.D.{p}\n\nf : ℕ\nf = p\n"}
+        files = {"crates/b/proofs/f/Answers.antt": "use Rattle.a.specs.D.{p}\n\nf : ℕ\nf = p\n"}
         for crate in "ab":
             files[f"crates/{crate}/specs/D.antt"] = DEFINITIONS + "pub p : ℕ\np = 1\n"
         self.assertEqual(self.rows(files), ["crates/b/specs/D.antt:2: unused definition p"])
 
     def test_contracts_are_roots_and_bodies_are_not(self):
-        uses = "ghost use Rattle·a·specs.specs.D.{p, q, n};\nghost use lib.M as m;\n"
-        text = code("⌜ record { x = p } ≡ m.y ⌝", uses)
+        uses = "ghost use Rattle.a.specs.D.{p, q, n};\nghost use lib.M as m;\n"
+        text = code("record { x = p } ≡ m.y", uses)
         definitions = "pub p : ℕ\np = 1\n\npub q : ℕ\nq = 1\n\npub n : ℕ\nn = 1\n"
-        ghost = "fn g()\n    ghost { q }\n    requires named { ⌜ true ⌝ }\n{}\n"
+        ghost = "fn g()\n    ghost top: { q }\n    requires named { true }\n{}\n"
         files = {"crates/a/src/lib.rt": text, "crates/a/specs/D.antt": DEFINITIONS + definitions}
         self.assertEqual(self.names(files), ["q", "n", "n", "q"])
         files["crates/a/src/lib.rt"] += ghost
         self.assertEqual(self.names(files), ["n", "n"])
+
+    def test_a_field_and_the_name_of_a_clause_are_no_use(self):
+        uses = "ghost use Rattle.a.specs.D.{p};\n"
+        contract = "result.p ≡ (g n).p }\n    ensures p { result ≡ n"
+        files = {"crates/a/src/lib.rt": code(contract, uses),
+                 "crates/a/specs/D.antt": DEFINITIONS + "pub p : ℕ\np = 1\n"}
+        self.assertEqual(self.names(files), ["p", "p"])
+
+    def test_what_an_attribute_gives_to_a_tactic(self):
+        attribute = "#[tactic(auto, using({}), unfolding(b::specs::D::q))]\n"
+        files = {"crates/a/proofs/L.antt": laws("one", "two", "three"),
+                 "crates/b/specs/D.antt": DEFINITIONS + "pub p : ℕ\np = 1\n\npub q : ℕ\nq = 1\n"}
+        laws_given = "crate::proofs::L::one, a::proofs::L::two"
+        files["crates/a/src/lib.rt"] = attribute.format(laws_given) + code("result ≡ n")
+        self.assertEqual(self.names(files), ["three", "p"])
 
     def test_helpers_of_a_where_block_belong_to_their_declaration(self):
         text = LAWS + (
@@ -154,32 +173,41 @@ class Reached(Case):
             "pub data Event : Type 0 where\n  call : ℕ → Event\n  on off : Event\n\n"
             "pub record R : Type 0 where\n  pub size : ℕ\n"
         )
-        proof = "use Rattle·a·specs.specs.D.{call, R}\n\nf : R\nf = call 1 .size\n"
+        proof = "use Rattle.a.specs.D.{call, R}\n\nf : R\nf = (call 1).size r.size\n"
         files = {
             "crates/a/specs/D.antt": text,
             "crates/a/specs/E.antt": DEFINITIONS + "pub size : ℕ\nsize = 1\n",
-            "crates/a/proofs/f/Proof.antt": "use Rattle·a·specs.specs.E.{size}\n" + proof,
+            "crates/a/proofs/f/Answers.antt": "use Rattle.a.specs.E.{size}\n" + proof,
         }
         self.assertEqual(self.names(files), ["size", "size"])
-        proof = "use Rattle·a·specs.specs.D.Event.{off}\n\nf : ℕ\nf = off\n"
-        self.assertEqual(self.names({"crates/a/proofs/f/Proof.antt": proof}), ["R", "size"])
+        proof = "use Rattle.a.specs.D.Event.{off}\n\nf : ℕ\nf = off\n"
+        self.assertEqual(self.names({"crates/a/proofs/f/Answers.antt": proof}), ["R", "size"])
 
     def test_paths_through_an_imported_module(self):
         files = {
             "crates/a/specs/D.antt": DEFINITIONS + "pub p : ℕ\np = 1\n\npub q : ℕ\nq = 1\n",
-            "crates/a/proofs/f/Proof.antt": "use Rattle·a·specs.specs.D as d\n\nf : ℕ\nf = d.p\n",
+            "crates/a/proofs/f/Answers.antt": "use Rattle.a.specs.D as d\n\nf : ℕ\nf = d.p\n",
         }
         self.assertEqual(self.names(files), ["q"])
-        whole = "f : ℕ\nf = Rattle·a.specs.D.p\n"
-        self.assertEqual(self.names({"crates/a/proofs/f/Proof.antt": whole}), ["q"])
-        twice = "use Rattle·a·specs.specs.D as d\nuse d.{p}\n\nf : ℕ\nf = p\n"
-        self.assertEqual(self.names({"crates/a/proofs/f/Proof.antt": twice}), ["q"])
+        whole = "f : ℕ\nf = Rattle.a.specs.D.p\n"
+        self.assertEqual(self.names({"crates/a/proofs/f/Answers.antt": whole}), ["q"])
+        twice = "use Rattle.a.specs.D as d\nuse d.{p}\n\nf : ℕ\nf = p\n"
+        self.assertEqual(self.names({"crates/a/proofs/f/Answers.antt": twice}), ["q"])
+
+    def test_what_invariants_declare_for_answers(self):
+        goals = "use Rattle.a.proofs.f.Goals as goal\n"
+        self.assertEqual(self.names({
+            "crates/a/specs/L.antt": laws("test", "returns"),
+            "crates/a/proofs/f/Invariants.antt": "pub test : ℕ\ntest = 1\n",
+            "crates/a/proofs/f/Answers.antt": "use Rattle.a.proofs.f.Invariants.{test}\n" + goals
+                                              + "\npub x : goal.returns\nx = test\n",
+        }), ["test", "returns"])
 
     def test_names_that_are_passed_on(self):
         self.assertEqual(self.names({
             "crates/a/specs/D.antt": DEFINITIONS + "pub p : ℕ\np = 1\n",
-            "crates/a/specs/E.antt": DEFINITIONS + "pub use Rattle·a·specs.specs.D.{p as q}\n",
-            "crates/a/proofs/f/Proof.antt": "use Rattle·a.specs.E.{q}\n\nf : ℕ\nf = q\n",
+            "crates/a/specs/E.antt": DEFINITIONS + "pub use Rattle.a.specs.D.{p as q}\n",
+            "crates/a/proofs/f/Answers.antt": "use Rattle.a.specs.E.{q}\n\nf : ℕ\nf = q\n",
         }), [])
 
     def test_what_readers_look_at(self):
@@ -199,10 +227,10 @@ class Reached(Case):
         self.assertEqual(self.names({"crates/a/must-fail/q.edit": edit}), [])
 
     def test_code_in_an_edit_is_no_contract(self):
-        files = {"crates/a/src/lib.rt": code("⌜ r ≡ n ⌝", "ghost use lib.N.{_≡_, _-_};\n")}
+        files = {"crates/a/src/lib.rt": code("result ≡ n", "ghost use lib.N.{◌≡◌, ◌-◌};\n")}
         edit = "file: src/lib.rt\nold:     n\nnew:     n - 1\n"
-        self.assertEqual(self.names({**files, "crates/a/must-fail/e.edit": edit}), ["_-_"])
-        edit = "file: src/lib.rt\nold: r ≡ n\nnew: r ≡ n - 1\n"
+        self.assertEqual(self.names({**files, "crates/a/must-fail/e.edit": edit}), ["◌-◌"])
+        edit = "file: src/lib.rt\nold: result ≡ n\nnew: result ≡ n - 1\n"
         self.assertEqual(self.names({**files, "crates/a/must-fail/e.edit": edit}), [])
 
     def test_a_use_line_that_an_edit_quotes_stays(self):
@@ -221,21 +249,30 @@ class Reached(Case):
                          ["b"])
 
     def test_a_fixity_is_no_use(self):
-        text = LAWS + "infixl 70 _⊓_\n_⊓_ : ℕ → ℕ → ℕ\na ⊓ b = a\n\nc : ℕ\nc = 1\n"
+        text = LAWS + "infixl 70 ◌⊓◌\n◌⊓◌ : ℕ → ℕ → ℕ\na ⊓ b = a\n\nc : ℕ\nc = 1\n"
         files = {"crates/a/specs/L.antt": text, "docs/REVIEW.md": "`c`"}
-        self.assertEqual(self.names(files), ["_⊓_"])
+        self.assertEqual(self.names(files), ["◌⊓◌"])
         self.assertEqual(self.names({"crates/a/specs/L.antt": text + "    ⊓ 2\n"}), [])
 
     def test_a_module_that_is_no_file_has_everything_so_spelled(self):
         self.assertEqual(self.names({
             "crates/a/specs/D.antt": DEFINITIONS + "pub p : ℕ\np = 1\n\npub q : ℕ\nq = 1\n",
-            "crates/a/proofs/f/Proof.antt": "use Rattle·b.specs.X.{p}\n\nf : ℕ\nf = p\n",
+            "crates/a/proofs/f/Answers.antt": "use Rattle.a.specs.X.{p}\n\nf : ℕ\nf = p\n",
         }), ["q"])
+
+    def test_a_module_that_rattle_makes_and_one_of_the_library_have_nothing_of_ours(self):
+        made = "Rattle.a.specs.declared.m.T", "Rattle.a.proofs.g.Goals", "Rattle.std.specs.Prelude"
+        for module in made:
+            with self.subTest(module):
+                self.assertEqual(self.names({
+                    "crates/a/specs/D.antt": DEFINITIONS + "pub p : ℕ\np = 1\n",
+                    "crates/a/proofs/f/Answers.antt": f"use {module}.{{p}}\n\nf : ℕ\nf = p\n",
+                }), ["p"])
 
     def test_a_set_of_rules(self):
         text = "-- Rules.\nuse lib.N.{n}\n\nx : ℕ\nx = 1\n\npub ruleset rules = (x, n)\n"
-        proof = "use Rattle·a·proofs.proofs.P.{rules}\n\nf : ℕ\nf = search rules\n"
-        files = {"crates/a/proofs/P.antt": text, "crates/a/proofs/f/Proof.antt": proof}
+        proof = "use Rattle.a.proofs.P.{rules}\n\nf : ℕ\nf = search rules\n"
+        files = {"crates/a/proofs/P.antt": text, "crates/a/proofs/f/Answers.antt": proof}
         self.assertEqual(self.names(files), [])
 
 
@@ -243,20 +280,20 @@ class Imports(Case):
     """Which imports of antt a file uses."""
 
     def unused(self, uses, body):
-        return self.names({"crates/a/proofs/f/Proof.antt": f"{uses}\n\nf : ℕ\nf = {body}\n"})
+        return self.names({"crates/a/proofs/f/Answers.antt": f"{uses}\n\nf : ℕ\nf = {body}\n"})
 
     def test_operators_are_used_by_their_parts(self):
-        uses = "use lib.N.{_+_, _-_, if_then_else_, _∙_, ¬_, _≡_}"
-        body = "(if x then _+_ 1 else 2) (_∙ 3) ¬ y"
-        self.assertEqual(self.unused(uses, body), ["_-_", "_≡_"])
+        uses = "use lib.N.{◌+◌, ◌-◌, if◌then◌else◌, ◌∙◌, ◌*◌, ¬◌, ◌≡◌}"
+        body = "(if x then ◌+◌ 1 else 2) (◌∙ 3) (4 *◌) ¬ y"
+        self.assertEqual(self.unused(uses, body), ["◌-◌", "◌≡◌"])
 
     def test_what_a_dot_parts(self):
         uses = "use lib.N.{a, b, c, d, e}\nuse lib.M as m\nuse lib.K as k\nuse lib.H"
-        body = "(λ a. b) (x .c) (λ y.d) (m.e 1) (k 2) (H.z)"
-        self.assertEqual(self.unused(uses, body), ["c", "e", "k"])
+        body = "(λ a. b) (x.c) ((y z).d) (m.e 1) (k 2) (H.z)"
+        self.assertEqual(self.unused(uses, body), ["c", "d", "e", "k"])
 
     def test_brackets_and_lists(self):
-        self.assertEqual(self.unused("use lib.N.{[], _∷_, a, b}", "{x = a} ∷ [];"), ["b"])
+        self.assertEqual(self.unused("use lib.N.{[], ◌∷◌, a, b}", "{x = a} ∷ [];"), ["b"])
 
     def test_renamed_and_escaped_names(self):
         uses = "use lib.N.{a as b, c as d, «max_len», «min_len»}"
@@ -267,12 +304,12 @@ class Imports(Case):
                          ["a", "b", "c"])
 
     def test_a_name_of_a_declared_type(self):
-        self.assertEqual(self.unused("use Rattle·a·specs.specs.declared.t.T.{T}", "1"), ["T"])
+        self.assertEqual(self.unused("use Rattle.a.specs.declared.t.T.{T}", "1"), ["T"])
 
     def test_a_long_line_has_a_row_at_each_name(self):
         uses = "use lib.N.{\n  a,\n  b,\n}"
-        rows = self.rows({"crates/a/proofs/f/Proof.antt": f"{uses}\n\nf : ℕ\nf = a\n"})
-        self.assertEqual(rows, ["crates/a/proofs/f/Proof.antt:3: unused import b"])
+        rows = self.rows({"crates/a/proofs/f/Answers.antt": f"{uses}\n\nf : ℕ\nf = a\n"})
+        self.assertEqual(rows, ["crates/a/proofs/f/Answers.antt:3: unused import b"])
 
 
 class RattleImports(Case):
@@ -290,65 +327,43 @@ class RattleImports(Case):
         self.assertEqual(self.unused("use a::N;\nfn f() { for i in 0..N {} }\n"), [])
 
     def test_a_contract_may_say_a_name_of_rattle(self):
-        text = code("⌜ r ≡ Kind.Big ⟦SIZE⟧ ⌝", "use a::Kind;\nuse a::SIZE;\nuse a::T;\n")
+        text = code("result ≡ Kind.Big SIZE", "use a::Kind;\nuse a::SIZE;\nuse a::T;\n")
         self.assertEqual(self.unused(text), ["T"])
+
+    def test_a_module_with_things_of_it(self):
+        uses = "use std::io::{self, BufReader};\nuse std::fmt::{self, Display};\n"
+        self.assertEqual(self.unused(uses + "fn f() -> io::Result<Display> {}\n"),
+                         ["BufReader", "fmt"])
+
+    def test_traits_whose_methods_are_called(self):
+        uses = "use std::io::Read;\nuse std::io::{BufRead, Write};\nuse a::Read as R;\n"
+        self.assertEqual(self.unused(uses + "fn f() { x.read() }\n"), ["R"])
 
     def test_exports_and_paths_through_an_import(self):
         self.assertEqual(self.unused("use crate::m;\npub use m::T;\npub(crate) use a::U;\n"), [])
 
 
-class Answers(Case):
-    """A Proof.antt that is written from an answers file."""
-
-    FILES = {
-        "crates/a/specs/L.antt": laws("one", "two", "psl"),
-        "crates/a/answers/PLACES": "use lib.N.{never-read}\n",
-        "crates/a/answers/m/f.txt": (
-            "-- What the file is about.\n\n"
-            "use Rattle·a·specs.specs.L.{one, two, psl}\nuse lib.N.{a, b, c, d}\n\n"
-            "define\nhelper : ℕ\nhelper = a\n\n"
-            "-- d\nunfolding b\nreturns, returns-2:c one @psl#1 .two\n"
-        ),
-        "crates/a/proofs/m/f/Proof.antt": (
-            "use Rattle·a·specs.specs.L.{two}\nuse lib.N.{z}\n\nf : ℕ\nf = two\n"
-        ),
-    }
-
-    def test_imports_are_those_of_the_answers(self):
-        self.assertEqual(self.rows(self.FILES), [
-            "crates/a/answers/m/f.txt:3: unused import psl",
-            "crates/a/answers/m/f.txt:3: unused import two",
-            "crates/a/answers/m/f.txt:4: unused import d",
-            "crates/a/specs/L.antt:8: unused law psl",
-        ])
-
-    def test_mend_leaves_the_proof(self):
-        self.rows(self.FILES, "--mend")
-        proof = "crates/a/proofs/m/f/Proof.antt"
-        self.assertEqual((self.root / proof).read_text(encoding="utf-8"), self.FILES[proof])
-        answers = (self.root / "crates/a/answers/m/f.txt").read_text(encoding="utf-8")
-        self.assertIn("L.{one}\nuse lib.N.{a, b, c}\n\ndefine", answers)
-
-
 class Mend(Case):
     """What `--mend` does to `use` lines."""
 
-    def mended(self, text, path="crates/a/proofs/f/Proof.antt"):
+    def mended(self, text, path="crates/a/proofs/f/Answers.antt"):
         self.write({path: text})
         self.run_tool("--mend")
         return (self.root / path).read_text(encoding="utf-8")
 
     def test_it_says_what_it_removed(self):
-        self.write({"crates/a/proofs/f/Proof.antt": "use lib.N.{a, b}\n\nf : ℕ\nf = a\n",
-                    "crates/b/answers/g.txt": "use lib.N.{c}\n\nreturns: refl\n"})
+        self.write({"crates/b/proofs/f/Answers.antt": "use lib.N.{a, b}\n\nf : ℕ\nf = a\n",
+                    "crates/b/proofs/f/Invariants.antt": "use lib.N.{a}\n\ng : ℕ\ng = 1\n",
+                    "crates/a/src/lib.rt": "use a::T;\n"})
         done = self.run_tool("--mend")
         self.assertEqual(done.returncode, 0)
         self.assertEqual(done.stdout.splitlines(), [
-            "crates/a/proofs/f/Proof.antt:1: removed import b",
-            "crates/b/answers/g.txt:1: removed import c",
-            "unused definitions: 0, unused laws: 0, removed imports: 2",
-            "run: tools/proofkit write b",
-            "run: rt fmt",
+            "crates/a/src/lib.rt:1: removed import T",
+            "crates/b/proofs/f/Answers.antt:1: removed import b",
+            "crates/b/proofs/f/Invariants.antt:1: removed import a",
+            "unused definitions: 0, unused laws: 0, removed imports: 3",
+            "run rt fmt in crates/a",
+            "run rt fmt in crates/b",
         ])
         self.assertEqual(self.run_tool().returncode, 0)
 
@@ -376,7 +391,7 @@ class Mend(Case):
 
     def test_lines_of_rattle(self):
         text = "// A.\nghost use lib.N.{a, b};\nuse crate::m;\nuse a::{T, U};\n"
-        contract = code("⌜ b T ⌝")
+        contract = code("b T")
         self.assertEqual(self.mended(text + contract, "crates/a/src/lib.rt"),
                          "// A.\nghost use lib.N.{b};\nuse a::{T};\n" + contract)
 

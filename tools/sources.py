@@ -8,21 +8,19 @@ from dataclasses import dataclass, field
 
 # ---- names in a text
 
-# antt: a name; a chain of names joined by dots; comments and quoted texts
+# antt: a name; a chain of names joined by dots, and a dot before it; comments and quoted texts
 LETTERS = r'[^\s(){}.;,@"«»]'
 NAME = rf"(?:«[^»]*»|{LETTERS}+)"
 CHAIN = re.compile(rf"(\.?)({NAME}(?:\.{NAME})*)")
 ANTT_NOISE = re.compile(rf'(?<!{LETTERS})--[^\n]*|\{{-.*?-\}}|"(?:\\.|[^"\\\n])*"', re.S)
 
-# answers: the same, a path `@thing` to a fact, and the colon right behind a need
-ANSWERS_NOISE = re.compile(rf"{ANTT_NOISE.pattern}|@{LETTERS}*|(?<=\S):", re.S)
-
 # Rattle: a name that is no field; comments and quoted texts; a `mod` line; where a clause of a
-# contract begins
+# contract begins; an attribute's list of what tactics use or open
 WORD = re.compile(r"(?:(?<![\w.])|(?<=\.\.))[A-Za-z_]\w*")
 CODE_NOISE = re.compile(r"//[^\n]*|/\*.*?\*/|\"(?:\\.|[^\"\\])*\"|'(?:\\.|[^'\\\n])'", re.S)
 MOD_LINE = re.compile(r"^[ \t]*(?:pub(?:\([^)\n]*\))?[ \t]+)?mod[ \t]+\S+$", re.M)
 CLAUSE = re.compile(r"\b(?:requires|ensures|ghost)\b[^{};]*\{")
+TACTIC_LIST = re.compile(r"\b(?:using|unfolding)\s*\(([^()]*)\)")
 
 
 def blanked(text, pattern):
@@ -31,31 +29,27 @@ def blanked(text, pattern):
 
 
 def chains_in(text):
-    """The chains of names in antt text, each a tuple. One behind a dot is a field, and left out."""
+    """The chains of names in antt text, each a tuple. One behind a bracket's dot is a field, and
+    left out."""
     found = CHAIN.findall(text)
     return {tuple(re.findall(NAME, chain)) for dot, chain in found if not dot}
 
 
-def names_in(chains, modules):
-    """The names that chains say.
-
-    `x.name` says x alone if x is one of the modules. Else it says both names: it may stand for the
-    end of a binder and the start of a body, as in `λ x.name`.
-    """
-    names = set()
-    for chain in chains:
-        names.update(chain[:1] if chain[0] in modules else chain)
+def names_in(chains):
+    """The names that chains say: `x.name` says x alone, since what stands behind the dot is a field
+    of x or stands in the module x."""
+    names = {chain[0] for chain in chains}
     for name in list(names):
-        if name.startswith("_") or name.endswith("_"):  # an operator with a side left open: `_+ 1`
-            names.update(name.split("_"))
+        if name.startswith("◌") or name.endswith("◌"):  # a section, with one side left open: `◌+ 1`
+            names.update(name.split("◌"))
     if names & {"do", "←"}:  # these stand for two operators that the text does not show
         names.update((">>=", ">>"))
     return names
 
 
 def says(names, name):
-    """Whether the names have this one: whole, or each part of an operator such as `_+_`."""
-    parts = [part for part in name.split("_") if part]
+    """Whether the names have this one: whole, or each part of an operator such as `◌+◌`."""
+    parts = [part for part in name.split("◌") if part]
     return name in names or bool(parts) and all(part in names for part in parts)
 
 
@@ -69,6 +63,13 @@ def contracts_in(text):
     return "\n".join(contracts)
 
 
+def tactic_chains(text, crate):
+    """The chains of names that the attributes of a Rattle file give to tactics: in the file of the
+    crate a, `using(crate::proofs::L::x)` gives `Rattle.a.proofs.L.x`."""
+    paths = [path.strip() for found in TACTIC_LIST.findall(text) for path in found.split(",")]
+    return {("Rattle", *re.sub(r"^crate\b", crate, path).split("::")) for path in paths if path}
+
+
 def closing_brace(text, start):
     """The place of the brace that closes the one right before START, or the end of the text."""
     depth = 1
@@ -80,6 +81,9 @@ def closing_brace(text, start):
 
 
 # ---- imports
+
+# traits whose methods are called without the trait's name
+IO_TRAITS = {f"std::io::{name}" for name in ("BufRead", "Read", "Seek", "Write")}
 
 # `use M.{a, b as c}`, `use M as x`, `use M`; `use a::B;`, `use a::{B, C};`
 USE = re.compile(
@@ -116,6 +120,10 @@ class Import:
     def is_public(self):
         return "pub" in self.use["marks"]
 
+    @property
+    def is_io_trait(self):
+        return "::".join([self.module, *filter(None, [self.item])]) in IO_TRAITS
+
 
 def read_imports(text, is_code):
     """The imports of a file whose comments are blanked."""
@@ -145,7 +153,8 @@ def read_items(text, use, is_rattle):
         at += len(words) + 1
         inner, _, alias = " ".join(words.split()).partition(" as ")
         if inner:
-            module, _, item = (path + dot + inner).rpartition(dot)
+            whole = path if is_rattle and inner == "self" else path + dot + inner
+            module, _, item = whole.rpartition(dot)
             yield Import(alias or item, module, item, is_rattle, line, use, segment)
 
 
@@ -166,7 +175,7 @@ def complete_paths(imports):
 
 # ---- declarations
 
-MARKS = r"\s*(?:(?:abbrev|unfoldable|pub|axiom)\s+)*"
+MARKS = r"\s*(?:(?:pattern|abbrev|unfoldable|pub|axiom)\s+)*"
 SIGNATURE = re.compile(rf"{MARKS}(?P<name>{NAME})\s*(?:\{{[^}}]*\}}\s*)?:\s")
 TYPE = re.compile(rf"{MARKS}(?P<kind>record|data|ruleset)\s+(?P<name>{NAME})")
 BLOCK = re.compile(rf"{MARKS}(?:module|mutual)\b")
@@ -256,18 +265,22 @@ def constructors_of(item):
 
 # ---- files
 
+# what a person writes of a function's proof, in the function's folder below proofs/. Any other file
+# of proofs/ has laws
+PROOFS = {"Answers.antt", "Invariants.antt", "Proof.antt"}
+
 
 class Source:
     """A file of the project.
 
     path          from the project's root
-    kind          `code` (.rt), `proof` (Proof.antt), `answers`, or, for a file with declarations,
-                  what these are: `definition` or `law`
+    kind          `code` (.rt), `proof` (a file of PROOFS), or, for a file with declarations, what
+                  these are: `definition` or `law`
     text          the text as it stands
     imports       what its `use` lines bring in
     modules       the antt modules that it imports: the name in this file -> the path
     body          the text without comments and `use` lines
-    chains        what it says in antt; in a Rattle file the contracts do that
+    chains        what it says in antt; in a Rattle file the contracts and attributes do that
     declarations  in a file with declarations
     named         name -> declaration; a constructor's name leads to its type
     outside       what it says in antt outside of declarations
@@ -278,14 +291,15 @@ class Source:
     def __init__(self, path, kind, text):
         self.path, self.kind, self.text = path, kind, text
         self.versions, self.quoted = [], ""
-        noise = {"code": CODE_NOISE, "answers": ANSWERS_NOISE}.get(kind, ANTT_NOISE)
-        clear = blanked(text, noise)
+        clear = blanked(text, CODE_NOISE if kind == "code" else ANTT_NOISE)
         self.imports = read_imports(clear, kind == "code")
         complete_paths(self.imports)
         self.modules = {one.name: one.module for one in self.imports
                         if one.item is None and not one.is_rattle}
         self.body = blanked(blanked(clear, USE), MOD_LINE)
         self.chains = chains_in(contracts_in(self.body) if kind == "code" else self.body)
+        if kind == "code":
+            self.chains |= tactic_chains(self.body, path.split("/")[1])
         self.declarations, self.outside, self.named = [], self.chains, {}
         if kind in ("definition", "law"):
             self.declare()
@@ -301,7 +315,7 @@ class Source:
     def unused_imports(self):
         """The imports that neither the file nor an edit of it says outside of `use` lines."""
         chains = self.chains.union(chains_in(self.quoted), *(one.chains for one in self.versions))
-        names = names_in(chains, self.modules)
+        names = names_in(chains)
         heads = {chain[0] for chain in chains if len(chain) > 1}
         bodies = [self.body, self.quoted] + [one.body for one in self.versions]
         words = set(WORD.findall("\n".join(bodies)))
@@ -309,7 +323,7 @@ class Source:
             if one.is_public or one.name == "*" or self.begins_a_path(one):
                 continue
             if one.is_rattle:
-                used = one.name in words
+                used = one.name in words or one.is_io_trait
             elif one.item is None:
                 used = one.name in heads
             else:
