@@ -7,14 +7,11 @@ pub mod Machine
 pub mod WrtdSteps
 -- Names for lists of definitions.
 pub mod StepDefinitions
--- Laws that the checker has shown, for the layers above.
+-- Laws that the checker has shown, for the layers above. Those on a step and on the lone machine are in proofs/.
 pub mod Cases
 pub mod RestLaws
 pub mod InvariantLaws
 pub mod CpuInvariantLaws
-pub mod StepLaws
-pub mod MachineLaws
-pub mod WrtdStepLaws
 pub mod FillerLaws
 -- What private code is held to. No definition above mentions these two.
 pub mod PortView

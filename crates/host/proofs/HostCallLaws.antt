@@ -12,7 +12,7 @@ use Rattle.common.specs.Choice.{when◌then◌else◌}
 use Rattle.common.specs.declared.places.Location.{Location}
 use Rattle.slices.specs.SliceLaws.{copied_front}
 use Rattle.slices.specs.Slices.{copied}
-use Rattle.supervisor.specs.ChangeLaws.{drain_accepted, load_far}
+use Rattle.supervisor.proofs.ChangeLaws.{drain_accepted, load_far}
 use Rattle.queries.specs.Queries.{report, query_refusal, report_of, backlog_outcome, backlog_of, fit_of}
 use Rattle.supervisor.specs.Calls.{Call, change, load, drain, outcome_of, refusal, after_call, drained_count, drained_buffer}
 use Rattle.system.specs.System.{Outcome, outcome, System, system, slot_of}

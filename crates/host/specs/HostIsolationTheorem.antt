@@ -5,15 +5,15 @@ use Rattle.std.proofs.Common.{sym, ap, ◌∙◌, arith, eq-eqb}
 use Rattle.std.proofs.Math.ListN.{length-set}
 use Rattle.common.specs.Choice.{when◌then◌else◌}
 use Rattle.common.specs.Repetition.{times}
-use Rattle.cpu.specs.MachineLaws.{times_shaped}
+use Rattle.cpu.proofs.MachineLaws.{times_shaped}
 use Rattle.supervisor.specs.Calls.{Change, load, unload, feed, drain, Call, change, run, query, refusal, patch_of, counted_after, after_accepted, after_call}
 use Rattle.supervisor.specs.Events.{Event, call, write, after_event, after_events}
 use Rattle.system.specs.System.{System, system, slot_of, patched, machine_in}
 use Rattle.table.specs.Table.{no_slot, slot_at, with_slot}
 use Rattle.system.specs.Running.{after_quantum, slot_quantum, slot_quanta, after_run}
 use Rattle.table.specs.Sound.{table_sound}
-use Rattle.supervisor.specs.IsolationTheorem.{isolation}
-use Rattle.supervisor.specs.LockTheorem.{lock_kept}
+use Rattle.supervisor.proofs.IsolationTheorem.{isolation}
+use Rattle.supervisor.proofs.LockTheorem.{lock_kept}
 use Rattle.supervisor.specs.CallLaws.{query_leaves}
 use Rattle.table.specs.declared.table.Slot.{Slot}
 use Rattle.table.specs.declared.table.Table.{Table}

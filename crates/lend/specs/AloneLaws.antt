@@ -7,7 +7,7 @@ use Rattle.common.specs.Choice.{when◌then◌else◌}
 use Rattle.common.specs.TestLaws.{and_true, or_left, or_right}
 use Rattle.common.specs.Ranges.{is_one_to}
 use Rattle.common.specs.Tests.{and_all, all_below}
-use Rattle.supervisor.specs.ChangeLaws.{empty_sound}
+use Rattle.supervisor.proofs.ChangeLaws.{empty_sound}
 use Rattle.system.specs.System.{Outcome, outcome, System, system, patched}
 use Rattle.supervisor.specs.Calls.{change, drain, refusal, outcome_of, drained_count, drained_buffer}
 use Rattle.table.specs.Table.{empty_slot, empty_table, new_refusal, new_table, partition_end, slot_at, with_slot, slot_with_state}

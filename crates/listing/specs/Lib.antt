@@ -8,8 +8,3 @@ pub mod TextDefinitions
 -- Laws that the checker has shown.
 pub mod TextLaws
 pub mod ListingLaws
-pub mod LoneLaws
--- Names for lists of definitions.
-pub mod CaseDefinitions
--- Laws that the checker has shown.
-pub mod Cases

@@ -9,7 +9,7 @@ use Rattle.loader.specs.Fresh.{fresh_state}
 use Rattle.slices.specs.SliceLaws.{part_length}
 use Rattle.queries.specs.Queries.{report, query_refusal, report_of}
 use Rattle.supervisor.specs.Calls.{load, change, run, drain, refusal, patch_of, counted_after, after_change, after_accepted, after_call, drained_count, drained_buffer}
-use Rattle.supervisor.specs.ChangeLaws.{change_sound}
+use Rattle.supervisor.proofs.ChangeLaws.{change_sound}
 use Rattle.system.specs.ConditionLaws.{SoundSystem, ReadySlot, loaded_ready}
 use Rattle.system.specs.System.{System, slot_of}
 use Rattle.table.specs.Table.{new_table, new_refusal, is_empty, slot_at}
@@ -17,10 +17,10 @@ use Rattle.supervisor.specs.Draining.{written_bytes}
 use Rattle.supervisor.specs.Loading.{load_patch}
 use Rattle.system.specs.Running.{after_run}
 use Rattle.system.specs.PatchLaws.{slot_inside, patched_slot}
-use Rattle.system.specs.RoundLaws.{DiffersByRunning, rounds_running}
+use Rattle.system.proofs.RoundLaws.{DiffersByRunning, rounds_running}
 use Rattle.table.specs.SoundLaws.{loaded_live, table_fact, table_test}
 use Rattle.supervisor.specs.Location.{output_location}
-use Rattle.supervisor.specs.IsolationTheorem.{run_accepted}
+use Rattle.supervisor.proofs.IsolationTheorem.{run_accepted}
 use Rattle.listing.specs.BenchListing.{new_system, load_call, after_bench_rounds}
 use Rattle.listing.specs.UntilStopped.{until_stopped}
 use Rattle.table.specs.TableDefinitions.{sound_definitions}

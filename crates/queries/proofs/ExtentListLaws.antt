@@ -12,7 +12,7 @@ use borrow.Author.Tests.{lt-ltb}
 use Rattle.common.specs.Choice.{when◌then◌else◌}
 use Rattle.table.specs.ExtentLaws.{extent_few, extent_none}
 use Rattle.table.specs.Extents.{extent, empty_extent, extent_between, lower_part, upper_part, without_partition, each_without, without_slots_below}
-use Rattle.table.specs.ExtentsTheorem.{below_rises}
+use Rattle.table.proofs.ExtentsTheorem.{below_rises}
 use Rattle.queries.specs.FitQuery.{fits_better, best_of}
 use Rattle.table.specs.FreeExtentsListed.{RisesFrom}
 use Rattle.table.specs.SoundLaws.{SlotsSound}

@@ -13,9 +13,9 @@ use Rattle.common.specs.TestLaws.{one_to_fact, one_to_test}
 use Rattle.queries.specs.Queries.{query_conditions, fit_answer, fit_of}
 use Rattle.table.specs.TableConditions.{table_conditions}
 use Rattle.table.specs.Extents.{empty_extent, extent_size, free_extents, widest_extent}
-use Rattle.table.specs.ExtentsTheorem.{extent_apart, free_extents_listed}
+use Rattle.table.proofs.ExtentsTheorem.{extent_apart, free_extents_listed}
 use Rattle.queries.specs.FitFound.{IsBestFit, FitFound, NoneHoldsSize}
-use Rattle.table.specs.ExtentTotalLaws.{widest_most, widest_less}
+use Rattle.table.proofs.ExtentTotalLaws.{widest_most, widest_less}
 use Rattle.queries.specs.FitLaws.{Wins, best_wins, best_listed}
 use Rattle.queries.specs.FitQuery.{is_size_in_range, best_fit, fit_conditions}
 use Rattle.table.specs.FreeExtentsListed.{IsFreeExtent, ◌IsOneOf◌, FreeExtentsListed}

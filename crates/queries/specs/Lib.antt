@@ -5,9 +5,7 @@ pub mod FitQuery
 pub mod Queries
 pub mod BacklogFilled
 pub mod FitFound
--- Laws that the checker has shown: BacklogTheorem is what a backlog fills, FitTheorem what a fit finds; the others carry these.
+-- Laws that the checker has shown: FitTheorem is what a fit finds; the others carry it. The theorem on backlogs is in proofs/.
 pub mod BacklogOrderLaws
-pub mod BacklogLaws
-pub mod BacklogTheorem
 pub mod FitLaws
 pub mod FitTheorem

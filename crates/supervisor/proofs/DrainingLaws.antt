@@ -8,7 +8,7 @@ use Rattle.common.specs.Choice.{when◌then◌else◌}
 use Rattle.slices.specs.SliceLaws.{part_length, copied_front}
 use Rattle.slices.specs.Slices.{part_of, copied}
 use Rattle.supervisor.specs.Calls.{change, drain, refusal, drained_buffer}
-use Rattle.supervisor.specs.ChangeLaws.{drain_accepted}
+use Rattle.supervisor.proofs.ChangeLaws.{drain_accepted}
 use Rattle.system.specs.System.{System, slot_of}
 use Rattle.supervisor.specs.Draining.{written_bytes}
 use Rattle.table.specs.Table.{partition_end}

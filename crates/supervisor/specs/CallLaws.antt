@@ -9,7 +9,7 @@ use Rattle.system.specs.System.{outcome, System, system}
 use Rattle.system.specs.OutcomeLaws.{refused_by, accepted_by}
 use Rattle.system.specs.Running.{run_outcome_of}
 use Rattle.table.specs.FreeBytes.{counted}
-use Rattle.table.specs.GapLaws.{counted_by_partitions_law}
+use Rattle.table.proofs.GapLaws.{counted_by_partitions_law}
 use Rattle.table.specs.Gaps.{counted_by_partitions}
 use Rattle.table.specs.Sound.{slots_sound}
 use Rattle.table.specs.SoundLaws.{slots_fact}

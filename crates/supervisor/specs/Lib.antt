@@ -12,10 +12,7 @@ pub mod LockKept
 pub mod FitThenLoad
 -- Names for lists of definitions.
 pub mod CallDefinitions
--- Laws that the checker has shown: IsolationTheorem is demand 3, LockTheorem what becomes of locked bytes, FitThenLoadTheorem what becomes of
--- a load after a fit; the others carry these.
+-- Laws that the checker has shown: FitThenLoadTheorem is what becomes of a load after a fit. The theorems on isolation and on locked bytes are
+-- in proofs/.
 pub mod CallLaws
-pub mod ChangeLaws
-pub mod IsolationTheorem
-pub mod LockTheorem
 pub mod FitThenLoadTheorem

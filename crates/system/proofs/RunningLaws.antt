@@ -22,7 +22,7 @@ use Rattle.system.specs.System.{System, system, slot_of, patched, machine_in, ma
 use Rattle.system.specs.Conditions.{system_conditions}
 use Rattle.system.specs.Running.{after_quantum, slot_quantum, slot_quanta, after_run}
 use Rattle.system.specs.PatchLaws.{slot_inside}
-use Rattle.system.specs.RoundLaws.{resting_quantum, quanta_running, rounds_running}
+use Rattle.system.proofs.RoundLaws.{resting_quantum, quanta_running, rounds_running}
 use Rattle.table.specs.SoundLaws.{table_fact, table_test}
 use Rattle.table.specs.Table.{slot_at, with_slot, slot_with_state, partition_end}
 use Rattle.table.specs.Sound.{table_sound}

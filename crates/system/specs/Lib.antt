@@ -2,9 +2,8 @@
 pub mod System
 pub mod Conditions
 pub mod Running
--- Laws that the checker has shown.
+-- Laws that the checker has shown. Those on rounds are in proofs/.
 pub mod OutcomeLaws
 pub mod ConditionLaws
 pub mod SlotMachineLaws
 pub mod PatchLaws
-pub mod RoundLaws

@@ -10,14 +10,9 @@ pub mod TableConditions
 pub mod Gaps
 -- Names for lists of definitions.
 pub mod TableDefinitions
--- Laws that the checker has shown: ExtentsTheorem is what the free extents are, FreeBytesTheorem what a table keeps of them; the others carry
--- these.
+-- Laws that the checker has shown. The theorems on free extents and free bytes are in proofs/.
 pub mod SoundLaws
 pub mod PartitionByteLaws
 pub mod TableConditionLaws
 pub mod RecountingLaws
 pub mod ExtentLaws
-pub mod ExtentTotalLaws
-pub mod ExtentsTheorem
-pub mod FreeBytesTheorem
-pub mod GapLaws

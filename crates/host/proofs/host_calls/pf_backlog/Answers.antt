@@ -1,7 +1,7 @@
 -- `host::host_calls::pf_backlog`: the backlog of the decoded table; what it fills has at most 26 bytes (BacklogLaws.antt of queries).
 use mathlib.Core.Path.{ap}
 use native.Mathlib.Omega.{arith}
-use Rattle.queries.specs.BacklogLaws.{backlog_size}
+use Rattle.queries.proofs.BacklogLaws.{backlog_size}
 use Rattle.queries.specs.Queries.{BacklogOutcome}
 use Rattle.host.proofs.HostCallLaws.{backlog_other, backlog_made}
 use Rattle.host.proofs.host_calls.pf_backlog.Goals as goal

@@ -7,7 +7,7 @@ use Rattle.common.specs.Choice.{when◌then◌else◌}
 use Rattle.slices.specs.SliceLaws.{copied_none}
 use Rattle.supervisor.specs.Calls.{drained_count, drained_buffer}
 use Rattle.supervisor.specs.Calls as calls
-use Rattle.supervisor.specs.ChangeLaws.{drain_accepted}
+use Rattle.supervisor.proofs.ChangeLaws.{drain_accepted}
 use Rattle.supervisor.specs.Draining.{drain_patch}
 use Rattle.table.specs.Table.{slot_at}
 use Rattle.supervisor.proofs.LoadedSlotLaws.{loaded_end}

@@ -1,7 +1,7 @@
 -- `supervisor::feeding::feed`: an accepted call names one of the eight slots, and its bytes fit the input buffer (ChangeLaws.antt).
 use native.Mathlib.Omega.{arith}
 use Rattle.supervisor.specs.Calls as calls
-use Rattle.supervisor.specs.ChangeLaws.{feed_accepted}
+use Rattle.supervisor.proofs.ChangeLaws.{feed_accepted}
 use Rattle.supervisor.specs.Feeding.{feed_patch}
 use Rattle.table.specs.Table.{slot_at}
 use Rattle.supervisor.proofs.LoadedSlotLaws.{loaded_end}

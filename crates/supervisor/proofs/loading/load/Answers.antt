@@ -3,7 +3,7 @@ use mathlib.Core.Path.{sym, ap, ◌∙◌}
 use Rattle.common.specs.Refusals.{refusal_by}
 use Rattle.supervisor.specs.Calls.{after_accepted, counted_after, patch_of}
 use Rattle.supervisor.specs.Calls as calls
-use Rattle.supervisor.specs.ChangeLaws.{change_slots}
+use Rattle.supervisor.proofs.ChangeLaws.{change_slots}
 use Rattle.system.specs.System.{system, patched}
 use Rattle.supervisor.specs.Loading.{partition_for, location_conditions, load_patch}
 use Rattle.table.specs.declared.table.Partition.{Partition}

@@ -3,7 +3,7 @@ use mathlib.Core.Path.{sym, ◌∙◌}
 use native.Mathlib.Omega.{arith}
 use Rattle.supervisor.specs.Calls.{change_conditions, refusal}
 use Rattle.supervisor.specs.Calls as calls
-use Rattle.supervisor.specs.ChangeLaws.{change_slots}
+use Rattle.supervisor.proofs.ChangeLaws.{change_slots}
 use Rattle.system.specs.ConditionLaws.{refusal_ready}
 use Rattle.supervisor.specs.Unloading.{unload_patch}
 use Rattle.supervisor.specs.CallLaws.{refused_outcome, accepted_outcome, counted_patch}

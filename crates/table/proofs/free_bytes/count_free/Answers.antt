@@ -1,6 +1,6 @@
 -- `table::free_bytes::count_free`: by what the two counts ensure; both are at most the memory's length (GapLaws.antt).
 use native.Mathlib.Omega.{arith}
-use Rattle.table.specs.GapLaws.{left_within, gaps_within}
+use Rattle.table.proofs.GapLaws.{left_within, gaps_within}
 use Rattle.table.proofs.free_bytes.count_free.Goals as goal
 
 pub overflow_cast-next : goal.overflow_cast-next

@@ -1,6 +1,6 @@
 -- `table::free_bytes::is_counted`: by what the two counts ensure; of sound slots they are those that are meant (GapLaws.antt).
 use Rattle.table.specs.FreeBytes.{is_counted}
-use Rattle.table.specs.GapLaws.{left_free, gaps_widest}
+use Rattle.table.proofs.GapLaws.{left_free, gaps_widest}
 use Rattle.table.specs.SoundLaws.{slots_fact}
 use Rattle.table.proofs.free_bytes.is_counted.Goals as goal
 

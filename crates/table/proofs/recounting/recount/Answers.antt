@@ -1,7 +1,7 @@
 -- `table::recounting::recount`: by whether the slots are sound.
 use mathlib.Core.Path.{sym, ◌∙◌}
 use Rattle.common.specs.ConditionDefinitions.{condition_definitions}
-use Rattle.table.specs.GapLaws.{counted_by_partitions_law}
+use Rattle.table.proofs.GapLaws.{counted_by_partitions_law}
 use Rattle.table.specs.Recounting.{recount_of}
 use Rattle.table.specs.SoundLaws.{slots_fact}
 use Rattle.table.proofs.recounting.recount.Goals as goal

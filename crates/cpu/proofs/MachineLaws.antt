@@ -13,7 +13,7 @@ use Rattle.common.specs.Repetition.{times}
 use Rattle.steps.specs.Result.{StepResult}
 use Rattle.cpu.specs.InvariantLaws.{KeepsInvariants}
 use Rattle.cpu.specs.CpuInvariantLaws.{CpuSound, keeps_sound, CpuShaped, keeps_shaped}
-use Rattle.cpu.specs.StepLaws.{Ending, continues, halts, stores, takes_input, puts_output, wants_input, finds_full, finds_locked, stops, step_ends}
+use Rattle.cpu.proofs.StepLaws.{Ending, continues, halts, stores, takes_input, puts_output, wants_input, finds_full, finds_locked, stops, step_ends}
 use Rattle.common.specs.ChoiceLaws.{if_all}
 
 -- a machine is changed into one that has its sizes, and as many locked bytes

@@ -12,7 +12,7 @@ use Rattle.common.specs.Choice.{when◌then◌else◌}
 use Rattle.common.specs.Layout.{layout_size}
 use Rattle.common.specs.Totals.{total_below}
 use Rattle.table.specs.ExtentLaws.{Covered, rises_above, extent_covered, extent_covers, extent_rises_alone, each_covered, each_covers, each_rises}
-use Rattle.table.specs.ExtentTotalLaws.{extent_total, each_total}
+use Rattle.table.proofs.ExtentTotalLaws.{extent_total, each_total}
 use Rattle.table.specs.Extents.{each_without, without_slots_below, free_extents, extents_total}
 use Rattle.table.specs.FreeExtentsListed.{IsFree, IsFreeExtent, IsWholeRun, ◌IsOneOf◌, RisesFrom, FreeExtentsListed}
 use Rattle.table.specs.PartitionByteLaws.{OutsidePartition, outside_partition, in_partition, outside_in_none, empty_in_none}

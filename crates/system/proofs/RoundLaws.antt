@@ -7,7 +7,7 @@ use Rattle.std.proofs.lemmas.List.{set-get_or}
 use Rattle.common.specs.Layout.{layout_size}
 use Rattle.common.specs.Repetition.{times}
 use Rattle.cpu.specs.Machine.{Machine, machine_step}
-use Rattle.cpu.specs.MachineLaws.{times_sizes, times_sound}
+use Rattle.cpu.proofs.MachineLaws.{times_sizes, times_sound}
 use Rattle.common.specs.RepetitionLaws.{times_add}
 use Rattle.cpu.specs.RestLaws.{times_rests}
 use Rattle.slices.specs.SliceLaws.{copy_self}

@@ -7,14 +7,14 @@ use Rattle.common.specs.LayoutLaws.{LayoutSound}
 use Rattle.common.specs.Repetition.{times}
 use Rattle.common.specs.declared.layout.Layout.{Layout}
 use Rattle.cpu.specs.Machine.{Machine, machine_step}
-use Rattle.cpu.specs.MachineLaws.{times_sizes, times_locked, times_unlocked}
+use Rattle.cpu.proofs.MachineLaws.{times_sizes, times_locked, times_unlocked}
 use Rattle.slices.specs.Slices.{part_of}
 use Rattle.system.specs.ConditionLaws.{SoundSystem, loaded_ready}
 use Rattle.supervisor.specs.Events.{Event, after_events, rounds_of_events}
 use Rattle.supervisor.specs.Isolation.{Isolation, LeftAloneThroughout}
-use Rattle.supervisor.specs.IsolationTheorem.{isolation}
+use Rattle.supervisor.proofs.IsolationTheorem.{isolation}
 use Rattle.supervisor.specs.LockKept.{LockKept}
-use Rattle.system.specs.RoundLaws.{status_of}
+use Rattle.system.proofs.RoundLaws.{status_of}
 use Rattle.table.specs.Sound.{table_sound}
 use Rattle.table.specs.SoundLaws.{table_fact}
 use Rattle.system.specs.System.{System, slot_of, machine_in}

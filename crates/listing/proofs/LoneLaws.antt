@@ -14,7 +14,7 @@ use Rattle.slices.specs.SliceLaws.{copied_inside, part_front}
 use Rattle.slices.specs.Slices.{part_of, copied}
 use Rattle.queries.specs.Queries.{report_of}
 use Rattle.supervisor.specs.Calls.{run, refusal, patch_of, counted_after, after_call}
-use Rattle.supervisor.specs.ChangeLaws.{LoadAccepted, load_accepted}
+use Rattle.supervisor.proofs.ChangeLaws.{LoadAccepted, load_accepted}
 use Rattle.system.specs.ConditionLaws.{SoundSystem, ReadySlot}
 use Rattle.system.specs.System.{System, slot_of, patched, machine_in}
 use Rattle.table.specs.Table.{slot_at}
@@ -22,7 +22,7 @@ use Rattle.supervisor.specs.Loading.{partition_for, load_patch}
 use Rattle.supervisor.specs.Draining.{written_bytes}
 use Rattle.queries.specs.Reporting.{reported_psu}
 use Rattle.system.specs.PatchLaws.{slot_machine, patched_slot}
-use Rattle.system.specs.RoundLaws.{rounds_running, rounds_machine}
+use Rattle.system.proofs.RoundLaws.{rounds_running, rounds_machine}
 use Rattle.queries.specs.declared.reported.Report.{Report}
 use Rattle.table.specs.declared.table.Partition.{Partition}
 use Rattle.table.specs.declared.table.Slot.{Slot}

@@ -11,7 +11,7 @@ use Rattle.common.specs.Choice.{when◌then◌else◌}
 use Rattle.slices.specs.SliceLaws.{part_front}
 use Rattle.slices.specs.Slices.{part_of}
 use Rattle.supervisor.specs.Calls.{Call, change, run, query, refusal, after_accepted, is_accepted, after_call}
-use Rattle.supervisor.specs.ChangeLaws.{change_keeps, change_sound}
+use Rattle.supervisor.proofs.ChangeLaws.{change_keeps, change_sound}
 use Rattle.system.specs.ConditionLaws.{SoundSystem}
 use Rattle.supervisor.specs.Events.{Event, call, write, after_event, after_events, rounds_of_call, rounds_of_event, rounds_of_events}
 use Rattle.supervisor.specs.Isolation.{LeftAlone, LeftAloneThroughout, NotWritten, InNoPartitionNorWrittenThroughout, SoundThroughout, RunsAccepted, Isolation}
@@ -21,7 +21,7 @@ use Rattle.system.specs.Conditions.{system_conditions}
 use Rattle.system.specs.Running.{after_run}
 use Rattle.table.specs.PartitionByteLaws.{OutsidePartition, outside_partition}
 use Rattle.system.specs.PatchLaws.{slot_machine, KeepsOthers}
-use Rattle.system.specs.RoundLaws.{DiffersByRunning, rounds_running, rounds_machine}
+use Rattle.system.proofs.RoundLaws.{DiffersByRunning, rounds_running, rounds_machine}
 use Rattle.table.specs.SoundLaws.{table_fact, table_test}
 use Rattle.table.specs.Table.{InNoPartition, is_empty, partition_end}
 use Rattle.table.specs.Sound.{table_sound}

@@ -3,9 +3,9 @@ use Rattle.std.specs.Prelude.{ℕ, ◌≤◌, max, List, [], ◌∷◌, ◌≡�
 use Rattle.std.proofs.Common.{inl, inr, sym, ◌∙◌, arith}
 use Rattle.std.proofs.Math.Decide.{dec_le}
 use Rattle.table.specs.ExtentLaws.{Covered}
-use Rattle.table.specs.ExtentTotalLaws.{widest_most}
+use Rattle.table.proofs.ExtentTotalLaws.{widest_most}
 use Rattle.table.specs.Extents.{extent_size, free_extents, widest_of}
-use Rattle.table.specs.ExtentsTheorem.{free_covered, free_extents_listed}
+use Rattle.table.proofs.ExtentsTheorem.{free_covered, free_extents_listed}
 use Rattle.table.specs.FreeBytes.{FreeBytesCounted}
 use Rattle.table.specs.FreeExtentsListed.{IsFree, IsFreeExtent, ◌IsOneOf◌}
 use Rattle.table.specs.SoundLaws.{TableSound}

@@ -12,9 +12,9 @@ use Rattle.std.proofs.Math.Decide.{dec_le, dec_lt}
 use native.Mathlib.Omega.{arith}
 use Rattle.common.specs.Choice.{when◌then◌else◌}
 use Rattle.table.specs.ExtentLaws.{Covered, rises_above}
-use Rattle.table.specs.ExtentTotalLaws.{widest_less}
+use Rattle.table.proofs.ExtentTotalLaws.{widest_less}
 use Rattle.table.specs.Extents.{extent_size, extents_total, without_slots_below, free_extents, free_total, widest_of, widest_extent}
-use Rattle.table.specs.ExtentsTheorem.{extent_apart, extent_starts, free_at_first, free_without_slot, free_extents_listed, free_covered}
+use Rattle.table.proofs.ExtentsTheorem.{extent_apart, extent_starts, free_at_first, free_without_slot, free_extents_listed, free_covered}
 use Rattle.table.specs.FreeBytes.{counted}
 use Rattle.table.specs.FreeExtentsListed.{IsFree, IsFreeExtent, ◌IsOneOf◌, RisesFrom}
 use Rattle.table.specs.Gaps.{bytes_left_below, end_before, gap_end_below, gap_from, widest_gap_below, counted_by_partitions}

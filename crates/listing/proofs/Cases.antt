@@ -13,9 +13,9 @@ use Rattle.table.specs.Table.{new_table}
 use Rattle.loader.specs.Fresh.{fresh_machine}
 use Rattle.listing.specs.Ascii.{ascii}
 use Rattle.listing.specs.BenchListing.{load_call, file_refusal, text_of, memory_after, longest_text, listing_outcome, listing_of}
-use Rattle.listing.specs.LoneLaws.{lone_until, lone_lines, lone_text}
+use Rattle.listing.proofs.LoneLaws.{lone_until, lone_lines, lone_text}
 use Rattle.common.specs.ConditionDefinitions.{condition_definitions}
-use Rattle.listing.specs.CaseDefinitions.{load_definitions, lone_definitions, round_definitions}
+use Rattle.listing.proofs.CaseDefinitions.{load_definitions, lone_definitions, round_definitions}
 
 -- K10's partition has 24 bytes, and so has the memory
 abbrev pub k10_before : System
