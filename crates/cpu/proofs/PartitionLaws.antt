@@ -14,7 +14,8 @@ use Rattle.cpu.specs.Machine.{machine_of, ports_of, with_effect, after_step, mac
 use Rattle.cpu.specs.Partition.{BoundsHold, bounds_of, machine_by_bounds, port_view_of, PartitionAfter, partition_after, apply_effect_of}
 use Rattle.cpu.specs.Port.{Ports}
 use Rattle.steps.specs.Result.{StepResult}
-use Rattle.cpu.proofs.StepLaws.{step_ends, EffectAllowed, ending_allowed}
+use Rattle.cpu.proofs.StepLaws.{step_ends, ending_allowed}
+use Rattle.cpu.specs.Endings.{EffectAllowed}
 use Rattle.cpu.specs.RestLaws.{step_runs}
 use Rattle.registers.specs.declared.packed_cpu.PackedCpu.{PackedCpu}
 use Rattle.common.specs.declared.layout.Layout.{Layout}

@@ -1,5 +1,5 @@
 -- Laws that the checker has shown: the ways in which a step ends, and that there are no others.
-use Rattle.std.specs.Prelude.{◌≡◌, ℕ, ◌%◌, ◌<◌, ◌≤◌, Bool, true, false, List, length}
+use Rattle.std.specs.Prelude.{◌≡◌, ℕ, ◌%◌, ◌<◌, Bool, true, false, List, length}
 use Rattle.std.proofs.lemmas.Bool.{false≢true}
 use Rattle.std.proofs.Math.Path.{refl}
 use Rattle.std.proofs.Common.{sym, subst, ◌∙◌, arith}
@@ -11,7 +11,7 @@ use Rattle.decode.specs.Decode.{decode_of, instruction_length}
 use Rattle.cpu.specs.Instruction.{execute_of, instruction_step}
 use Rattle.steps.specs.Operand.{Operand, Found, NoOperand, register_operand_of, immediate_operand_of, relative_operand_of, absolute_operand_of, operand_of, if_operand, access_of, is_locked, operate_on_operand_of}
 use Rattle.cpu.specs.Port.{read_data_of, write_data_of, Ports}
-use Rattle.steps.specs.Result.{Effect, Nothing, Store, Take, Put, StepResult, step_result, running_of, stopped_of, register_changed_of, operated_of}
+use Rattle.steps.specs.Result.{StepResult, stopped_of, register_changed_of, operated_of}
 use Rattle.registers.specs.Cpu.{counter_of}
 use Rattle.cpu.specs.Psw.{masked_of, tested_of}
 use Rattle.steps.specs.AddressLaws.{byte_all, address_all}
@@ -37,19 +37,7 @@ use Rattle.decode.specs.declared.decode.BranchMode.TheVariants as branch
 use Rattle.decode.specs.declared.decode.Access.{Access}
 use Rattle.decode.specs.declared.decode.Access.TheVariants.{Read, Write}
 use Rattle.registers.specs.declared.cpu.Cpu.{Cpu}
-
--- the nine ways in which a step ends. Two of them are WRTD's, and they are its only ones. Whatever the instruction that stores, the byte is
--- inside the window; at or above the lock it is stored, below it the step stops
-pub data Ending (cpu : Cpu) (window : List ℕ) (locked : ℕ) (p : Ports) : Bool → StepResult → Type 1 where
-  continues : (next : Cpu) → KeepsInvariants cpu next → Ending cpu window locked p false (running_of next)
-  halts : (next : Cpu) → KeepsInvariants cpu next → Ending cpu window locked p false (step_result next 2 Nothing)
-  stores : (next : Cpu) (a : Address) (v : ℕ) → KeepsInvariants cpu next → locked ≤ a.0 → a.0 < length window → Ending cpu window locked p false (step_result next 1 (Store a v))
-  takes_input : (next : Cpu) → KeepsInvariants cpu next → p.unread ≡ true → Ending cpu window locked p false (step_result next 1 Take)
-  wants_input : p.unread ≡ false → Ending cpu window locked p false (stopped_of cpu 3)
-  finds_locked : (a : Address) → a.0 < locked → a.0 < length window → Ending cpu window locked p false (stopped_of cpu 8)
-  stops : (n : ℕ) → 5 ≤ n → n ≤ 7 → Ending cpu window locked p false (stopped_of cpu n)
-  puts_output : (next : Cpu) (v : ℕ) → KeepsInvariants cpu next → p.full ≡ false → Ending cpu window locked p true (step_result next 1 (Put v))
-  finds_full : p.full ≡ true → Ending cpu window locked p true (stopped_of cpu 4)
+use Rattle.cpu.specs.Endings.{Ending, EffectAllowed, continues, halts, stores, takes_input, wants_input, finds_locked, stops, puts_output, finds_full}
 
 module _ (cpu : Cpu) (w : List ℕ) (n : ℕ) (p : Ports) where
   abbrev Ends : StepResult → Type 1
@@ -243,13 +231,6 @@ module _ (cpu : Cpu) (w : List ℕ) (n : ℕ) (p : Ports) where
           → Ending cpu w n p (if_fetched f false (λ op. is_wrtd (decode_of op))) (if_fetched f (stopped_of cpu 6) (λ op. execute_of (decode_of op) cpu (instruction_length (decode_of op)) w n p (op % 4)))
       go (Byte op) e = execute_ends (instruction_length (decode_of op)) (decode_of op) (op % 4) (omega (arith, fetched_inside _ op e))
       go NoByte e = outside
-
--- a byte is taken only where one is unread, and put out only where there is room
-abbrev pub EffectAllowed : Ports → Effect → Type 0
-EffectAllowed p Nothing = Unit {0}
-EffectAllowed p (Store a v) = Unit {0}
-EffectAllowed p Take = p.unread ≡ true
-EffectAllowed p (Put v) = p.full ≡ false
 
 pub ending_allowed : {cpu : Cpu} {w : List ℕ} {n : ℕ} {p : Ports} {wrtd : Bool} {s : StepResult} → Ending cpu w n p wrtd s → EffectAllowed p s.effect
 ending_allowed (continues next k) = tt

@@ -6,7 +6,8 @@ use Rattle.common.specs.Repetition.{times}
 use Rattle.cpu.specs.Instruction.{instruction_step}
 use Rattle.cpu.specs.Machine.{Machine, ports_of, with_effect, after_step, machine_step}
 use Rattle.steps.specs.Result.{StepResult}
-use Rattle.cpu.proofs.StepLaws.{Ending, continues, halts, stores, takes_input, puts_output, wants_input, finds_full, finds_locked, stops, step_ends}
+use Rattle.cpu.proofs.StepLaws.{step_ends}
+use Rattle.cpu.specs.Endings.{Ending, continues, halts, stores, takes_input, puts_output, wants_input, finds_full, finds_locked, stops}
 use Rattle.cpu.specs.WrtdSteps.{is_at_wrtd, executes_wrtd, wrtd_steps}
 
 module _ (m : Machine) where

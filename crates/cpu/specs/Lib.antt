@@ -13,6 +13,9 @@ pub mod RestLaws
 pub mod InvariantLaws
 pub mod CpuInvariantLaws
 pub mod FillerLaws
+-- What theorems speak of.
+pub mod Endings
+pub mod MachineKept
 -- What private code is held to. No definition above mentions these two.
 pub mod PortView
 pub mod Partition

@@ -2,8 +2,6 @@
 -- specs/, so that an edit of a definition is refused where it makes one of them false.
 pub mod LoneLaws
 pub mod Cases
--- Names for lists of definitions.
-pub mod CaseDefinitions
 -- Laws that only proofs need.
 pub mod PutTextLaws
 pub mod BenchRunLaws

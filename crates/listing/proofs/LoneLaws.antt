@@ -6,7 +6,7 @@ use Rattle.common.specs.Choice.{when◌then◌else◌}
 use Rattle.common.specs.Layout.{layout_size}
 use Rattle.common.specs.RefusalLaws.{given_numbered, none_holds}
 use Rattle.common.specs.Repetition.{times}
-use Rattle.cpu.specs.Machine.{Machine, machine_of, machine_step}
+use Rattle.cpu.specs.Machine.{machine_of, machine_step}
 use Rattle.loader.specs.Fresh.{fresh_bytes, file_state, fresh_machine}
 use Rattle.loader.specs.FreshLaws.{fresh_length}
 use Rattle.pattern.specs.Reader.{parameters_of}
@@ -14,43 +14,23 @@ use Rattle.slices.specs.SliceLaws.{copied_inside, part_front}
 use Rattle.slices.specs.Slices.{part_of, copied}
 use Rattle.queries.specs.Queries.{report_of}
 use Rattle.supervisor.specs.Calls.{run, refusal, patch_of, counted_after, after_call}
-use Rattle.supervisor.proofs.ChangeLaws.{LoadAccepted, load_accepted}
+use Rattle.supervisor.proofs.ChangeLaws.{load_accepted}
+use Rattle.supervisor.specs.LoadAccepted.{LoadAccepted}
 use Rattle.system.specs.ConditionLaws.{SoundSystem, ReadySlot}
 use Rattle.system.specs.System.{System, slot_of, patched, machine_in}
 use Rattle.table.specs.Table.{slot_at}
 use Rattle.supervisor.specs.Loading.{partition_for, load_patch}
 use Rattle.supervisor.specs.Draining.{written_bytes}
-use Rattle.queries.specs.Reporting.{reported_psu}
 use Rattle.system.specs.PatchLaws.{slot_machine, patched_slot}
 use Rattle.system.proofs.RoundLaws.{rounds_running, rounds_machine}
-use Rattle.queries.specs.declared.reported.Report.{Report}
 use Rattle.table.specs.declared.table.Partition.{Partition}
 use Rattle.table.specs.declared.table.Slot.{Slot}
 use Rattle.listing.specs.BenchListing.{new_system, load_call, after_bench_rounds, file_refusal, lines_after, text_of}
 use Rattle.listing.specs.UntilStopped.{until_stopped}
 use Rattle.listing.specs.ListingLaws.{slot_loaded, fresh_sound, load_after_accepted, load_ready, round_after_accepted, round_ready, after_bench_rounds_ready, report_accepted}
-use Rattle.listing.specs.Text.{lines_of}
+use Rattle.listing.specs.LoneLines.{lone_until, lone_report, lone_lines}
 
 -- ---- the lone machine's lines
-
--- quanta of q steps until the status is not 1 or n are made
-unfoldable pub lone_until : ℕ → ℕ → Machine → Machine
-lone_until zero q m = m
-lone_until (suc n) q m = when eqb m.state.status 1 then lone_until n q (times q machine_step m) else m
-
-unfoldable pub lone_report : Machine → Report
-lone_report m =
-    record {
-      refusal = 0;
-      status = m.state.status;
-      counter = m.state.cpu.counter;
-      registers = m.state.cpu.registers;
-      psu = reported_psu m.state;
-      psl = m.state.cpu.psl;
-    }
-
-unfoldable pub lone_lines : Machine → List ℕ
-lone_lines m = lines_of (lone_report m) (take m.state.written m.output)
 
 -- ---- rounds
 

@@ -5,6 +5,10 @@ pub mod Text
 pub mod BenchListing
 -- Names for lists of definitions.
 pub mod TextDefinitions
+pub mod CaseDefinitions
 -- Laws that the checker has shown.
 pub mod TextLaws
 pub mod ListingLaws
+-- What theorems speak of.
+pub mod LoneLines
+pub mod WorkedCases

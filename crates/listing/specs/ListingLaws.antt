@@ -17,7 +17,8 @@ use Rattle.supervisor.specs.Draining.{written_bytes}
 use Rattle.supervisor.specs.Loading.{load_patch}
 use Rattle.system.specs.Running.{after_run}
 use Rattle.system.specs.PatchLaws.{slot_inside, patched_slot}
-use Rattle.system.proofs.RoundLaws.{DiffersByRunning, rounds_running}
+use Rattle.system.proofs.RoundLaws.{rounds_running}
+use Rattle.system.specs.RoundsKept.{DiffersByRunning}
 use Rattle.table.specs.SoundLaws.{loaded_live, table_fact, table_test}
 use Rattle.supervisor.specs.Location.{output_location}
 use Rattle.supervisor.proofs.IsolationTheorem.{run_accepted}

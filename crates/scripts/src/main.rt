@@ -211,7 +211,7 @@ fn call_answer(table: Table, memory: &mut [u8], entry: &[u8]) -> Answer {
         5 => supervisor::load(table, memory, k, Location(value32(entry)), given),
         6 => supervisor::unload(table, memory, k),
         7 => supervisor::feed(table, memory, k, given),
-        _ => system::run(table, memory, value16(entry)),
+        _ => supervisor::run(table, memory, value16(entry)),
     }
 }
 

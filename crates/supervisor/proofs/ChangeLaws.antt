@@ -24,7 +24,6 @@ use Rattle.loader.specs.FreshLaws.{fresh_length, zeros_fifteen_bits}
 use Rattle.pattern.specs.Reader.{read_of, read_refusal, parameters_of}
 use Rattle.pattern.specs.ReaderLaws.{read_zero, read_ranges, input_fits}
 use Rattle.pattern.specs.ParameterLaws.{InRange}
-use Rattle.pattern.specs.declared.reader.ReadResult.TheVariants.{Accepted}
 use Rattle.supervisor.specs.Calls.{Change, load, unload, feed, drain, change, change_conditions, refusal, patch_of, counted_after, after_change, outcome_of}
 use Rattle.system.specs.System.{outcome, System, system, slot_of, patched}
 use Rattle.table.specs.TableConditionLaws.{HoldsPattern}
@@ -48,6 +47,7 @@ use Rattle.table.specs.declared.table.Slot.{Slot}
 use Rattle.table.specs.declared.table.Table.{Table}
 use Rattle.table.specs.TableDefinitions.{sound_definitions}
 use Rattle.common.specs.ConditionDefinitions.{condition_definitions}
+use Rattle.supervisor.specs.LoadAccepted.{LoadAccepted}
 
 -- ---- load
 
@@ -58,13 +58,6 @@ file_numbered file = (given_numbered (read_refusal (read_of file)), tt)
 pub location_numbered : (t : Table) (k : ℕ) (p : Partition) → NoneGivesZero (location_conditions t k p)
 unfolding location_conditions
 location_numbered t k p = (λ e. omega arith, (λ e. omega arith, tt))
-
-pub record LoadAccepted (x : System) (k : ℕ) (location : Location) (file : List ℕ) : Type 0 where
-  pub system : SoundSystem x
-  pub slot : k < 8
-  pub read : read_of file ≡ Accepted (parameters_of file)
-  pub inside : partition_end (partition_for location (parameters_of file)) ≤ x.table.size
-  pub clear : (j : ℕ) → j < 8 → j ≢ k → Apart (slot_of x j).partition (partition_for location (parameters_of file))
 
 pub load_accepted : (x : System) (k : ℕ) (location : Location) (file : List ℕ) {n : ℕ} → n ≡ refusal (change k (load location file)) x → n ≡ 0 → LoadAccepted x k location file
 unfolding refusal change_conditions file_conditions location_conditions

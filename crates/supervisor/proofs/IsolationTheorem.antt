@@ -21,7 +21,8 @@ use Rattle.system.specs.Conditions.{system_conditions}
 use Rattle.system.specs.Running.{after_run}
 use Rattle.table.specs.PartitionByteLaws.{OutsidePartition, outside_partition}
 use Rattle.system.specs.PatchLaws.{slot_machine, KeepsOthers}
-use Rattle.system.proofs.RoundLaws.{DiffersByRunning, rounds_running, rounds_machine}
+use Rattle.system.proofs.RoundLaws.{rounds_running, rounds_machine}
+use Rattle.system.specs.RoundsKept.{DiffersByRunning}
 use Rattle.table.specs.SoundLaws.{table_fact, table_test}
 use Rattle.table.specs.Table.{InNoPartition, is_empty, partition_end}
 use Rattle.table.specs.Sound.{table_sound}

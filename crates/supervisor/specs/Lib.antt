@@ -16,3 +16,5 @@ pub mod CallDefinitions
 -- in proofs/.
 pub mod CallLaws
 pub mod FitThenLoadTheorem
+-- What theorems speak of.
+pub mod LoadAccepted

@@ -1,5 +1,5 @@
 -- Laws that the checker has shown: in a round each loaded slot goes on as the lone machine, whatever the others do.
-use Rattle.std.specs.Prelude.{false, List, ◌≢◌, ◌⊎◌, ◌≡◌, refl, ℕ, zero, suc, ◌+◌, ◌*◌, ◌≤◌, ◌<◌, length, get_or}
+use Rattle.std.specs.Prelude.{false, List, ◌≢◌, ◌⊎◌, ◌≡◌, refl, ℕ, zero, suc, ◌+◌, ◌*◌, ◌≤◌, ◌<◌, length}
 use Rattle.std.proofs.Common.{inl, inr, sym, ◌∙◌, zero-mul, arith}
 use Rattle.std.proofs.Math.Path.{ap}
 use Rattle.std.proofs.Math.Decide.{ℕ_discrete}
@@ -23,13 +23,7 @@ use Rattle.table.specs.Table.{InNoPartition, no_slot, slot_at, with_slot, slot_w
 use Rattle.table.specs.declared.table.Partition.{Partition}
 use Rattle.table.specs.declared.table.Slot.{Slot}
 use Rattle.table.specs.declared.table.Table.{Table}
-
--- y is x but for what runs in loaded slots, and their bytes
-pub record DiffersByRunning (x y : System) : Type 0 where
-  pub system : SoundSystem y
-  pub partitions : (k : ℕ) → (slot_of y k).partition ≡ (slot_of x k).partition
-  pub loaded : (k : ℕ) → is_empty (slot_of y k) ≡ is_empty (slot_of x k)
-  pub bytes : (i : ℕ) → InNoPartition i x.table → get_or y.memory i 0 ≡ get_or x.memory i 0
+use Rattle.system.specs.RoundsKept.{DiffersByRunning}
 
 pub running_refl : (x : System) → SoundSystem x → DiffersByRunning x x
 running_refl x g = record { system = g; partitions = λ k. refl; loaded = λ k. refl; bytes = λ i h. refl }

@@ -7,3 +7,5 @@ pub mod OutcomeLaws
 pub mod ConditionLaws
 pub mod SlotMachineLaws
 pub mod PatchLaws
+-- What theorems speak of.
+pub mod RoundsKept

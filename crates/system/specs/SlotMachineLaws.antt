@@ -6,7 +6,7 @@ use Rattle.std.proofs.Math.Seq.{take-length}
 use Rattle.common.specs.Layout.{layout_size}
 use Rattle.common.specs.declared.layout.Layout.{Layout}
 use Rattle.cpu.specs.Machine.{Machine, machine_of}
-use Rattle.cpu.proofs.MachineLaws.{MachineSound}
+use Rattle.cpu.specs.MachineKept.{MachineSound}
 use Rattle.registers.specs.declared.state.State.{State}
 use Rattle.slices.specs.SliceLaws.{part_length, copied_inside, part_before_copy, part_after_copy}
 use Rattle.slices.specs.Slices.{part_of, copied}

@@ -9,7 +9,7 @@ use Rattle.queries.specs.Queries.{report_of}
 use Rattle.supervisor.specs.Calls.{after_accepted, after_call, counted_after}
 use Rattle.supervisor.specs.Loading.{partition_for}
 use Rattle.table.specs.Table.{new_table, new_refusal}
-use Rattle.listing.proofs.LoneLaws.{lone_until, lone_report, lone_lines}
+use Rattle.listing.specs.LoneLines.{lone_until, lone_report, lone_lines}
 use Rattle.listing.specs.TextDefinitions.{text_definitions}
 
 -- what refuses a load into a new table
