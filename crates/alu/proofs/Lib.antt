@@ -1,2 +1,2 @@
 -- Laws that only proofs need.
-pub mod SumLaws
+pub mod RotateLaws

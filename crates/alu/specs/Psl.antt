@@ -1,6 +1,11 @@
 -- Definitions that must be believed: PSL by the manual's letters, and PSL with some of them changed
 -- (document 01, "The machine"; manual, "Program Status Word").
-use Rattle.std.specs.Prelude.{ℕ, ◌+◌, ◌*◌, ◌/◌, ◌%◌}
+use Rattle.std.specs.Prelude.{Bool, true, false, ℕ, ◌+◌, ◌*◌, ◌/◌, ◌%◌}
+
+-- a flag as a bit
+abbrev pub bit_of : Bool → ℕ
+bit_of true = 1
+bit_of false = 0
 
 -- by the manual's letters: carry, compare, with carry, register select, interdigit carry, condition code
 abbrev pub bit_c : ℕ → ℕ

@@ -1,22 +1,22 @@
 // PSL with some of its fields changed.
 ghost use Rattle.std.specs.Prelude.{◌≡◌, ◌<◌};
-ghost use Rattle.alu.specs.Psl.{bit_rs, with_cc, with_arithmetic_bits};
+ghost use Rattle.alu.specs.Psl.{bit_of, with_cc, with_arithmetic_bits};
 
-pub(crate) fn with_cc(psl: u8, cc: u8) -> u8
-    requires { cc < 3 }
-    ensures value { result ≡ with_cc psl cc }
-    ensures result_value { bit_rs result ≡ bit_rs psl }
-{
-    cc * 64 + psl % 64
+// CC: 0, 1 or 2. It is a number and no enum, since `condition_code` reckons it without a branch.
+#[derive(Clone, Copy)]
+pub struct ConditionCode {
+    pub number: u8,
+    ghost in_range: { number < 3 },
 }
 
-pub(crate) fn with_arithmetic_bits(psl: u8, cc: u8, idc: u8, ovf: u8, c: u8) -> u8
-    requires cc_bound { cc < 3 }
-    requires idc_bound { idc < 2 }
-    requires ovf_bound { ovf < 2 }
-    requires c_bound { c < 2 }
-    ensures value { result ≡ with_arithmetic_bits psl cc idc ovf c }
-    ensures result_value { bit_rs result ≡ bit_rs psl }
+pub(crate) fn with_cc(psl: u8, cc: ConditionCode) -> u8
+    ensures { result ≡ with_cc psl cc.number }
 {
-    cc * 64 + idc * 32 + psl / 8 % 4 * 8 + ovf * 4 + psl / 2 % 2 * 2 + c
+    cc.number * 64 + psl % 64
+}
+
+pub(crate) fn with_arithmetic_bits(psl: u8, cc: ConditionCode, idc: bool, ovf: bool, c: bool) -> u8
+    ensures { result ≡ with_arithmetic_bits psl cc.number (bit_of idc) (bit_of ovf) (bit_of c) }
+{
+    cc.number * 64 + idc as u8 * 32 + psl / 8 % 4 * 8 + ovf as u8 * 4 + psl / 2 % 2 * 2 + c as u8
 }

@@ -6,7 +6,9 @@ use mathlib.Core.List.{List, [], ◌∷◌, ◌++◌, append-nil}
 use Rattle.std.proofs.Math.Path.{refl}
 use Rattle.std.proofs.Common.{sym, ap, ◌∙◌, arith, ne_eqb}
 use Rattle.common.specs.Choice.{when◌then◌else◌}
-use Rattle.common.specs.Refusals.{Condition, unless, refusal_by}
+use Rattle.common.specs.Refusals.{Condition, unless, refusal_by, refusal_number}
+use Rattle.common.specs.declared.refusals.Refusal.{Refusal}
+use Rattle.common.specs.declared.refusals.Refusal.TheVariants.{NotSound, OtherLength, NoSlot, Taken, Empty, Frame, Form, Board, Values, Code, Input, PastEnd, Meets, Unread, NoInput, Short, Size, NoExtent}
 
 -- no condition of the list holds
 abbrev pub NoneHolds : List Condition → Type 0
@@ -123,3 +125,26 @@ none_behind (k ∷ ks) more h = go k.holds (none_behind ks more h)
     go : (b : Bool) → refusal_by (ks ++ more) ≡ refusal_by ks → (when b then k.number else refusal_by (ks ++ more)) ≡ (when b then k.number else refusal_by ks)
     go true further = refl
     go false further = further
+
+-- ---- the refusals of the code
+
+-- none has the number 0
+pub number_some : (refusal : Refusal) → refusal_number refusal ≡ 0 → ⊥
+number_some NotSound e = omega (arith, e)
+number_some OtherLength e = omega (arith, e)
+number_some NoSlot e = omega (arith, e)
+number_some Taken e = omega (arith, e)
+number_some Empty e = omega (arith, e)
+number_some Frame e = omega (arith, e)
+number_some Form e = omega (arith, e)
+number_some Board e = omega (arith, e)
+number_some Values e = omega (arith, e)
+number_some Code e = omega (arith, e)
+number_some Input e = omega (arith, e)
+number_some PastEnd e = omega (arith, e)
+number_some Meets e = omega (arith, e)
+number_some Unread e = omega (arith, e)
+number_some NoInput e = omega (arith, e)
+number_some Short e = omega (arith, e)
+number_some Size e = omega (arith, e)
+number_some NoExtent e = omega (arith, e)

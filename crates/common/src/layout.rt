@@ -6,7 +6,7 @@ use crate::ranges::is_one_to;
 
 // The window first, then the input buffer, then the output buffer (document 01's strips), without gaps: how many bytes each has. And how
 // many bytes of the window, from 0 on, no store may touch, 0 if none is locked (document 02, U6).
-#[derive(Clone, Copy)]
+#[derive(Clone, Copy, Debug, PartialEq, Eq)]
 pub struct Layout {
     pub window: u16,
     pub input: u16,

@@ -7,11 +7,10 @@ use Rattle.common.specs.Choice.{when◌then◌else◌}
 use Rattle.common.specs.Layout.{layout_size}
 use Rattle.registers.specs.PackedCpu.{cpu_of}
 use Rattle.steps.specs.PackedStep.{effect_of, step_result_of}
-use Rattle.cpu.specs.PortView.{ports_of_view}
 use Rattle.cpu.specs.Instruction.{instruction_step}
 use Rattle.registers.specs.State.{with_cpu, with_status, with_read, with_written}
 use Rattle.cpu.specs.Machine.{machine_of, ports_of, with_effect, after_step, machine_step}
-use Rattle.cpu.specs.Partition.{BoundsHold, bounds_of, machine_by_bounds, port_view_of, PartitionAfter, partition_after, apply_effect_of}
+use Rattle.cpu.specs.Partition.{BoundsHold, BoundsInside, bounds_of, machine_by_bounds, port_view_of, PartitionAfter, partition_after, apply_effect_of}
 use Rattle.cpu.specs.Port.{Ports}
 use Rattle.steps.specs.Result.{StepResult}
 use Rattle.cpu.proofs.StepLaws.{step_ends, ending_allowed}
@@ -27,14 +26,6 @@ use Rattle.steps.specs.declared.result.PackedEffect.{PackedEffect}
 use Rattle.steps.specs.declared.result.PackedEffect.TheVariants.{Nothing, Store, Take, Put}
 use Rattle.registers.specs.declared.cpu.Cpu.{Cpu}
 
--- the parts end inside the bytes, and start at numbers of their size
-pub record BoundsInside (b : Bounds) (n : ℕ) : Type 0 where
-  pub window_end : b.window_end ≤ n
-  pub input_end : b.input_end ≤ n
-  pub output_end : b.output_end ≤ n
-  pub input_start : b.input_start < 65536
-  pub output_start : b.output_start < 131072
-
 pub bounds_inside : (b : Bounds) (n : ℕ) → BoundsHold b n → BoundsInside b n
 bounds_inside b n p =
     let d1 = p.window_end in
@@ -42,7 +33,16 @@ bounds_inside b n p =
     let d3 = p.output_end in
     let d4 = p.input_start in
     let d5 = p.input_size in
-    record { window_end = omega arith; input_end = omega arith; output_end = omega arith; input_start = omega arith; output_start = omega arith }
+    let d6 = p.output_size in
+    record {
+      window_end = omega arith;
+      input_end = omega arith;
+      output_end = omega arith;
+      input_start = omega arith;
+      output_start = omega arith;
+      output_size = omega arith;
+      filled = p.filled;
+    }
 
 -- a part that is cut at the end of the bytes
 take_cut : (n m : ℕ) (l : List ℕ) → m ≡ min n (length l) → (t : Bool) → ltb n (length l) ≡ t → take m l ≡ take n l
@@ -84,8 +84,8 @@ output_full_law b k l p false h =
     let x : length (take (b.end - b.output_start) (drop b.output_start l)) ≤ k.written = omega arith in
     le-leb _ _ g ∙ sym (le-leb _ _ x)
 
-ports_law : (given : State) (b : Bounds) (c : Cpu) (s : ℕ) (k : Positions) (l : List ℕ) → BoundsHold b (length l) → ports_of_view (port_view_of b k) (take b.input_end l) ≡ ports_of (machine_by_bounds given b c s k l)
-unfolding ports_of_view port_view_of machine_by_bounds
+ports_law : (given : State) (b : Bounds) (c : Cpu) (s : ℕ) (k : Positions) (l : List ℕ) → BoundsHold b (length l) → port_view_of b k l ≡ ports_of (machine_by_bounds given b c s k l)
+unfolding port_view_of machine_by_bounds
 ports_law given b c s k l p = rw (byte_law b k l p _ refl, output_full_law b k l p _ refl)
 
 -- an effect on the bytes is the machine's
@@ -142,39 +142,6 @@ apply_law Nothing given b c s k l p g m e = rw (e)
 apply_law (Store a v) given b c s k l p g m e = apply_store given b c s k l a v p _ refl m e
 apply_law Take given b c s k l p g m e = apply_take given b c s k l g m e
 apply_law (Put v) given b c s k l p g m e = apply_put given b c s k l v p (output_has_room b k l p g _ refl) m e
-
--- the positions stay in range
-abbrev PositionsFit : PartitionAfter → Type 0
-PositionsFit m = (m.positions.read < 65536) × (m.positions.written < 65536)
-
-fit_take : (b : Bounds) (k : Positions) (l : List ℕ) (n : ℕ) → BoundsHold b n → k.read < 65536 → k.written < 65536 → (t : Bool) → ltb k.read b.filled ≡ t → PositionsFit (apply_effect_of Take b k l)
-unfolding apply_effect_of when◌then◌else◌
-fit_take b k l n p r w true h = let g : k.read < b.filled = ltb-true _ _ h in let f : b.filled < 65536 = p.filled in rw (h) (omega arith, w)
-fit_take b k l n p r w false h = rw (h) (r, w)
-
-fit_put : (v : ℕ) (b : Bounds) (k : Positions) (l : List ℕ) (n : ℕ) → BoundsHold b n → k.read < 65536 → k.written < 65536 → (t : Bool) → ltb (b.output_start + k.written) b.output_end ≡ t → PositionsFit (apply_effect_of (Put v) b k l)
-unfolding apply_effect_of when◌then◌else◌
-fit_put v b k l n p r w true h =
-    let g : b.output_start + k.written < b.output_end = ltb-true _ _ h in
-    let f : b.output_end ≡ min b.end n = p.output_end in
-    let o : b.end < b.output_start + 65536 = p.output_size in
-    rw (h) (r, omega arith)
-fit_put v b k l n p r w false h = rw (h) (r, w)
-
-fit_store : (a v : ℕ) (b : Bounds) (k : Positions) (l : List ℕ) → k.read < 65536 → k.written < 65536 → (t : Bool) → ltb a b.window_end ≡ t → PositionsFit (apply_effect_of (Store a v) b k l)
-unfolding apply_effect_of when◌then◌else◌
-fit_store a v b k l r w true h = rw (h) (r, w)
-fit_store a v b k l r w false h = rw (h) (r, w)
-
-positions_fit : (x : PackedEffect) (b : Bounds) (k : Positions) (l : List ℕ) (n : ℕ) → BoundsHold b n → k.read < 65536 → k.written < 65536 → PositionsFit (apply_effect_of x b k l)
-unfolding apply_effect_of
-positions_fit Nothing b k l n p r w = (r, w)
-positions_fit (Store a v) b k l n p r w = fit_store a v b k l r w _ refl
-positions_fit Take b k l n p r w = fit_take b k l n p r w _ refl
-positions_fit (Put v) b k l n p r w = fit_put v b k l n p r w _ refl
-
-pub positions_law : (x : PackedEffect) (b : Bounds) (k : Positions) (l : List ℕ) (n : ℕ) → BoundsHold b n → k.read < 65536 → k.written < 65536 → (m : PartitionAfter) → m ≡ apply_effect_of x b k l → PositionsFit m
-positions_law x b k l n p r w m e = rw (e) (positions_fit x b k l n p r w)
 
 -- what lies behind the partition stays
 beyond_store : (a v : ℕ) (b : Bounds) (k : Positions) (l : List ℕ) (n : ℕ) → BoundsHold b n → (t : Bool) → ltb a b.window_end ≡ t → drop b.end (apply_effect_of (Store a v) b k l).bytes ≡ drop b.end l
@@ -233,12 +200,12 @@ pub status_at : (given : State) (b : Bounds) (c : Cpu) (s : ℕ) (k : Positions)
 unfolding machine_by_bounds
 status_at given b c s k l = refl
 
-pub iteration_steps : (given : State) (b : Bounds) (m : PackedCpu) (s : ℕ) (k : Positions) (l : List ℕ) → BoundsHold b (length l) → s ≡ 1 → (w : PackedStep) → step_result_of w ≡ instruction_step (cpu_of m) (take b.window_end l) b.locked (ports_of_view (port_view_of b k) (take b.input_end l)) → (n : Positions) (v : List ℕ) → partition_after n v ≡ apply_effect_of w.effect b k l → machine_by_bounds given b (cpu_of w.cpu) w.status n v ≡ machine_step (machine_by_bounds given b (cpu_of m) s k l)
+pub iteration_steps : (given : State) (b : Bounds) (m : PackedCpu) (s : ℕ) (k : Positions) (l : List ℕ) → BoundsHold b (length l) → s ≡ 1 → (w : PackedStep) → step_result_of w ≡ instruction_step (cpu_of m) (take b.window_end l) b.locked (port_view_of b k l) → (n : Positions) (v : List ℕ) → partition_after n v ≡ apply_effect_of w.effect b k l → machine_by_bounds given b (cpu_of w.cpu) w.status n v ≡ machine_step (machine_by_bounds given b (cpu_of m) s k l)
 iteration_steps given b m s k l q e w g n v h =
     let window : take b.window_end l ≡ take b.input_start l = take_cut b.input_start b.window_end l q.window_end _ refl in
     let d : step_result_of w ≡ instruction_step (cpu_of m) (take b.input_start l) b.locked (ports_of (machine_by_bounds given b (cpu_of m) s k l)) =
     g
-    ∙ ap (λ (x : List ℕ). instruction_step (cpu_of m) x b.locked (ports_of_view (port_view_of b k) (take b.input_end l))) window
+    ∙ ap (λ (x : List ℕ). instruction_step (cpu_of m) x b.locked (port_view_of b k l)) window
     ∙ ap (λ (x : Ports). instruction_step (cpu_of m) (take b.input_start l) b.locked x) (ports_law given b (cpu_of m) s k l q) in
     let ports = ports_of (machine_by_bounds given b (cpu_of m) s k l) in
     let allowed : EffectAllowed ports (step_result_of w).effect = subst (λ (t : StepResult). EffectAllowed ports t.effect) (sym d) (ending_allowed (step_ends (cpu_of m) (take b.input_start l) b.locked ports)) in

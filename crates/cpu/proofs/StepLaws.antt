@@ -1,5 +1,5 @@
 -- Laws that the checker has shown: the ways in which a step ends, and that there are no others.
-use Rattle.std.specs.Prelude.{◌≡◌, ℕ, ◌%◌, ◌<◌, Bool, true, false, List, length}
+use Rattle.std.specs.Prelude.{◌≡◌, ℕ, ◌%◌, ◌<◌, Bool, true, false, List, length, Option, Some, None}
 use Rattle.std.proofs.lemmas.Bool.{false≢true}
 use Rattle.std.proofs.Math.Path.{refl}
 use Rattle.std.proofs.Common.{sym, subst, ◌∙◌, arith}
@@ -20,13 +20,8 @@ use Rattle.common.specs.Choice.{when◌then◌else◌}
 use Rattle.common.specs.ChoiceLaws.{if_all}
 use Rattle.cpu.specs.WrtdSteps.{is_wrtd, is_at_wrtd}
 use Rattle.common.specs.declared.places.Address.{Address}
-use Rattle.steps.specs.declared.address.Fetched.{Fetched}
-use Rattle.steps.specs.declared.address.Fetched.TheVariants.{Byte, NoByte}
-use Rattle.steps.specs.declared.address.Resolved.{Resolved}
-use Rattle.steps.specs.declared.address.Resolved.TheVariants.{At, Outside}
 use Rattle.alu.specs.declared.alu.AluResult.{AluResult}
 use Rattle.cpu.specs.declared.branch.Target.{Target}
-use Rattle.cpu.specs.declared.branch.Target.TheVariants.{To, NoTarget}
 use Rattle.decode.specs.declared.decode.Instruction.{Instruction}
 use Rattle.decode.specs.declared.decode.Instruction.TheVariants.{Unknown, ControlPort, ExtendedPort, Operate, Strz, Nop, Halt, Spsu, Spsl, Lpsu, Lpsl, Cpsu, Cpsl, Ppsu, Ppsl, Tpsu, Tpsl, Tmi, Dar, Rrr, Rrl, Redd, Wrtd, Retc, Rete, Branch, Zbrr, Zbsr, Bxa, Bsxa}
 use Rattle.decode.specs.declared.decode.BranchKind.{BranchKind}
@@ -47,13 +42,13 @@ module _ (cpu : Cpu) (w : List ℕ) (n : ℕ) (p : Ports) where
   outside = stops 6 (omega arith) (omega arith)
 
   -- an address that is there is one that the Cpu leads to
-  record LeadsIfAt (f : Resolved) : Type 1 where
-    led : (a : Address) → f ≡ At a → LeadsTo cpu a
+  record LeadsIfAt (f : Option Address) : Type 1 where
+    led : (a : Address) → f ≡ Some a → LeadsTo cpu a
 
-  outside_led : LeadsIfAt Outside
+  outside_led : LeadsIfAt None
   outside_led = record { led = λ a q. let z : ◌≡◌ {A = ℕ} 0 1 = cc in absurd (omega arith) }
 
-  at_led : (a : Address) → LeadsTo cpu a → LeadsIfAt (At a)
+  at_led : (a : Address) → LeadsTo cpu a → LeadsIfAt (Some a)
   at_led a h = record { led = λ b q. let e : a ≡ b = cc in subst (LeadsTo cpu) e h }
 
   pointer_led : (a : Address) → LeadsIfAt (pointer_of w a)
@@ -69,9 +64,9 @@ module _ (cpu : Cpu) (w : List ℕ) (n : ℕ) (p : Ports) where
     found : (b : ℕ) (a : Address) (d : ℕ) (next : Cpu) → a.0 < length w → KeepsInvariants cpu next → OperandInside (Found b a d next)
     missing : OperandInside NoOperand
 
-  fetched_inside : (a : Address) (b : ℕ) → fetch_of w a ≡ Byte b → a.0 < length w
+  fetched_inside : (a : Address) (b : ℕ) → fetch_of w a ≡ Some b → a.0 < length w
   unfolding fetch_of
-  fetched_inside a b = if_all (λ (f : Fetched). f ≡ Byte b → a.0 < length w) (λ e q. ltb-true _ _ e) (λ e q. let z : ◌≡◌ {A = ℕ} 0 1 = cc in omega arith)
+  fetched_inside a b = if_all (λ (f : Option ℕ). f ≡ Some b → a.0 < length w) (λ e q. ltb-true _ _ e) (λ e q. let z : ◌≡◌ {A = ℕ} 0 1 = cc in omega arith)
 
   -- an instruction of k bytes
   module _ (k : ℕ) where
@@ -126,21 +121,21 @@ module _ (cpu : Cpu) (w : List ℕ) (n : ℕ) (p : Ports) where
         (λ e. continues _ (λ i s. i.with_counter_law _ back (l i s) (keep_counted kind cpu r i s)))
 
     -- what a branch's bytes say is an address that the Cpu leads to
-    data TargetLed : Target → Type 1 where
-      led_to : (indirect : ℕ) (a back : Address) → LeadsTo cpu a → LeadsTo cpu back → TargetLed (To indirect a back)
-      led_nowhere : TargetLed NoTarget
+    data TargetLed : Option Target → Type 1 where
+      led_to : (t : Target) → LeadsTo cpu t.address → LeadsTo cpu t.next → TargetLed (Some t)
+      led_nowhere : TargetLed None
 
     target_by_led : (mode : BranchMode) (second : ℕ) → TargetLed (target_by mode cpu k w second)
-    target_by_led branch.Relative second = led_to _ _ _ (lead_relative cpu _ second (lead_after cpu k)) (lead_after cpu k)
-    target_by_led branch.Absolute second = byte_all TargetLed (λ e. led_nowhere) (λ third e. led_to _ _ _ (lead_bytes cpu second third) (lead_after cpu k))
+    target_by_led branch.Relative second = led_to _ (lead_relative cpu _ second (lead_after cpu k)) (lead_after cpu k)
+    target_by_led branch.Absolute second = byte_all TargetLed (λ e. led_nowhere) (λ third e. led_to _ (lead_bytes cpu second third) (lead_after cpu k))
 
     target_led : (mode : BranchMode) → TargetLed (target_of mode cpu k w)
     unfolding target_of
     target_led mode = byte_all TargetLed (λ e. led_nowhere) (λ second e. target_by_led mode second)
 
-    if_target_ends : (t : Target) (kind : BranchKind) (r : ℕ) → TargetLed t → Ends (if_target t (stopped_of cpu 6) (λ indirect a back. branch_if_taken_of kind cpu (register_counted_of kind cpu r) w r indirect a back))
-    if_target_ends (To indirect a back) kind r (led_to _ _ _ h l) = branch_if_taken_ends kind r indirect a back h l
-    if_target_ends NoTarget kind r led_nowhere = outside
+    if_target_ends : (t : Option Target) (kind : BranchKind) (r : ℕ) → TargetLed t → Ends (if_target t (stopped_of cpu 6) (λ indirect a back. branch_if_taken_of kind cpu (register_counted_of kind cpu r) w r indirect a back))
+    if_target_ends (Some t) kind r (led_to _ h l) = branch_if_taken_ends kind r t.indirect t.address t.next h l
+    if_target_ends None kind r led_nowhere = outside
 
     branch_ends : (mode : BranchMode) (kind : BranchKind) (r : ℕ) → Ends (branch_of mode kind cpu k w r)
     unfolding branch_of
@@ -227,10 +222,10 @@ module _ (cpu : Cpu) (w : List ℕ) (n : ℕ) (p : Ports) where
   unfolding instruction_step is_at_wrtd if_fetched
   step_ends = go (fetch_of w (counter_of cpu)) refl
     where
-      go : (f : Fetched) → fetch_of w (counter_of cpu) ≡ f
+      go : (f : Option ℕ) → fetch_of w (counter_of cpu) ≡ f
           → Ending cpu w n p (if_fetched f false (λ op. is_wrtd (decode_of op))) (if_fetched f (stopped_of cpu 6) (λ op. execute_of (decode_of op) cpu (instruction_length (decode_of op)) w n p (op % 4)))
-      go (Byte op) e = execute_ends (instruction_length (decode_of op)) (decode_of op) (op % 4) (omega (arith, fetched_inside _ op e))
-      go NoByte e = outside
+      go (Some op) e = execute_ends (instruction_length (decode_of op)) (decode_of op) (op % 4) (omega (arith, fetched_inside _ op e))
+      go None e = outside
 
 pub ending_allowed : {cpu : Cpu} {w : List ℕ} {n : ℕ} {p : Ports} {wrtd : Bool} {s : StepResult} → Ending cpu w n p wrtd s → EffectAllowed p s.effect
 ending_allowed (continues next k) = tt

@@ -1,6 +1,6 @@
 -- Definitions that must be believed: branches, calls and returns (document 01, "The machine"; manual, "Subroutine Linkage" and
 -- "Detailed Processor Instructions").
-use Rattle.std.specs.Prelude.{ℕ, ◌+◌, ◌/◌, ◌%◌, Bool, true, false, not, List, ◌==◌}
+use Rattle.std.specs.Prelude.{ℕ, ◌+◌, ◌/◌, ◌%◌, Bool, true, false, not, List, Option, Some, None, ◌==◌}
 use Rattle.steps.specs.Address.{add_wrapping, fetch_of, if_fetched, if_resolved, address_of, resolve_of, relative_of}
 use Rattle.common.specs.Choice.{when◌then◌else◌}
 use Rattle.steps.specs.Result.{StepResult, running_of, stopped_of, address_after, advanced_of}
@@ -8,7 +8,6 @@ use Rattle.alu.specs.Psl.{field_cc}
 use Rattle.registers.specs.Cpu.{without_ii, psl_of, psu_of, register_of, with_register, with_counter, with_psu, call_of, return_from_call_of}
 use Rattle.common.specs.declared.places.Address.{Address}
 use Rattle.cpu.specs.declared.branch.Target.{Target}
-use Rattle.cpu.specs.declared.branch.Target.TheVariants.{To, NoTarget}
 use Rattle.decode.specs.declared.decode.BranchKind.{BranchKind}
 use Rattle.decode.specs.declared.decode.BranchKind.TheVariants.{Bct, Bcf, Brn, Bir, Bdr, Bst, Bsf, Bsn}
 use Rattle.decode.specs.declared.decode.BranchMode.{BranchMode}
@@ -69,19 +68,21 @@ branch_if_taken_of kind cpu counted window r indirect a next =
 
 -- what the own bytes of a branch of k bytes say: the indirect bit, the address, and the address of the next instruction.
 -- The second byte has a displacement, or begins fifteen bits of address
-abbrev pub target_by : BranchMode → Cpu → ℕ → List ℕ → ℕ → Target
-target_by Relative cpu k window second = To (second / 128) (relative_of (address_after cpu k) second) (address_after cpu k)
+abbrev pub target_by : BranchMode → Cpu → ℕ → List ℕ → ℕ → Option Target
+target_by Relative cpu k window second =
+    Some (record { indirect = second / 128; address = relative_of (address_after cpu k) second; next = address_after cpu k })
 target_by Absolute cpu k window second =
-    if_fetched (fetch_of window (address_after cpu 2)) NoTarget (λ third. To (second / 128) (address_of second third) (address_after cpu k))
+    if_fetched (fetch_of window (address_after cpu 2)) None (λ third.
+    Some (record { indirect = second / 128; address = address_of second third; next = address_after cpu k }))
 
 -- the target by the second byte; outside there is none
-unfoldable pub target_of : BranchMode → Cpu → ℕ → List ℕ → Target
-target_of mode cpu k window = if_fetched (fetch_of window (address_after cpu 1)) NoTarget (λ second. target_by mode cpu k window second)
+unfoldable pub target_of : BranchMode → Cpu → ℕ → List ℕ → Option Target
+target_of mode cpu k window = if_fetched (fetch_of window (address_after cpu 1)) None (λ second. target_by mode cpu k window second)
 
 -- what follows if there is a target, and what if there is none
-abbrev pub if_target : {A : Type 0} → Target → A → (ℕ → Address → Address → A) → A
-if_target (To indirect a next) stop go = go indirect a next
-if_target NoTarget stop go = stop
+abbrev pub if_target : {A : Type 0} → Option Target → A → (ℕ → Address → Address → A) → A
+if_target (Some t) stop go = go t.indirect t.address t.next
+if_target None stop go = stop
 
 -- the bytes of a branch that is not taken are fetched all the same
 unfoldable pub branch_of : BranchMode → BranchKind → Cpu → ℕ → List ℕ → ℕ → StepResult

@@ -4,7 +4,7 @@ use Rattle.std.proofs.Common.{◌∙◌, arith, length-set}
 use Rattle.cpu.specs.InvariantLaws.{Invariant, KeepsInvariants}
 use Rattle.registers.specs.Cpu.{with_sp, without_ii, stored_psu}
 use Rattle.registers.specs.declared.cpu.Cpu.{Cpu}
-use Rattle.cpu.specs.StepDefinitions.{cpu_definitions}
+use Rattle.registers.specs.CpuDefinitions.{cpu_definitions}
 
 -- what a sound table asks of registers: counter and return addresses of fifteen bits, PSU of its stored bits alone
 pub record CpuSound (cpu : Cpu) : Type 0 where

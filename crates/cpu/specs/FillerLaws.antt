@@ -1,5 +1,5 @@
 -- Laws that the checker has shown: what the filler 00h does (document 02, U4).
-use Rattle.std.specs.Prelude.{◌≡◌, ℕ, zero, suc, ◌+◌, ◌*◌, ◌/◌, ◌%◌, ◌≤◌}
+use Rattle.std.specs.Prelude.{◌≡◌, ℕ, zero, suc, ◌+◌, ◌*◌, ◌/◌, ◌%◌, ◌≤◌, Some}
 use Rattle.std.proofs.Common.{ap, ◌∙◌, arith}
 use Rattle.std.proofs.lemmas.List.{set-get_or}
 use Rattle.alu.specs.Alu.{condition_code_of}
@@ -13,7 +13,6 @@ use Rattle.cpu.specs.Machine.{Machine, machine_step, with_state}
 use Rattle.steps.specs.Result.{address_after}
 use Rattle.registers.specs.State.{with_cpu}
 use Rattle.cpu.specs.StepDefinitions.{step_definitions}
-use Rattle.steps.specs.declared.address.Fetched.TheVariants.{Byte}
 use Rattle.registers.specs.declared.cpu.Cpu.{Cpu}
 
 -- a Cpu behind k bytes of filler: the counter k further within its page, CC by R0, and all else left
@@ -25,7 +24,7 @@ abbrev pub machine_behind_filler : ℕ → Machine → Machine
 machine_behind_filler k m = with_state (with_cpu (behind_filler k m.state.cpu) m.state) m
 
 -- one step of a running machine at code 00h
-pub filler_step : (m : Machine) → m.state.status ≡ 1 → fetch_of m.window (counter_of m.state.cpu) ≡ Byte 0
+pub filler_step : (m : Machine) → m.state.status ≡ 1 → fetch_of m.window (counter_of m.state.cpu) ≡ Some 0
     → machine_step m ≡ machine_behind_filler 1 m
 unfolding step_definitions
 filler_step m runs code = rw (runs, code, set-get_or m.state.cpu.registers 0 0)
@@ -51,7 +50,7 @@ behind_again k cpu = λ i. with_counter (with_psl cpu (cc_again (psl_of cpu) (co
 
 -- k + 1 steps of a running machine through k + 1 bytes 00h, one behind the other within the page
 pub filler_steps : (k : ℕ) (m : Machine) → m.state.status ≡ 1
-    → ((i : ℕ) → i ≤ k → fetch_of m.window (address_after m.state.cpu i) ≡ Byte 0)
+    → ((i : ℕ) → i ≤ k → fetch_of m.window (address_after m.state.cpu i) ≡ Some 0)
     → times (suc k) machine_step m ≡ machine_behind_filler (suc k) m
 unfolding times counter_of with_counter with_psl
 filler_steps zero m runs zeros = filler_step m runs (rw (page_none_further (counter_of m.state.cpu)) at (zeros 0 (omega arith)))

@@ -16,6 +16,7 @@ pub mod FillerLaws
 -- What theorems speak of.
 pub mod Endings
 pub mod MachineKept
--- What private code is held to. No definition above mentions these two.
+-- What private code is held to. No definition above mentions these.
+pub mod Masked
 pub mod PortView
 pub mod Partition

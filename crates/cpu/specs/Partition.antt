@@ -1,6 +1,6 @@
 -- What private code is held to: the parts of a partition by their bounds, as a run reads and writes them. Nothing here has to
 -- be believed: the contracts of the public functions do not mention it.
-use Rattle.std.specs.Prelude.{◌≡◌, ℕ, ◌+◌, ◌-◌, ◌%◌, ◌<◌, ◌≤◌, min, List, take, drop, nat_le, nat_lt, slice_set}
+use Rattle.std.specs.Prelude.{◌≡◌, ℕ, ◌+◌, ◌-◌, ◌%◌, ◌<◌, ◌≤◌, min, List, take, drop, nat_le, nat_lt, slice_index, slice_set}
 use Rattle.common.specs.Choice.{when◌then◌else◌}
 use Rattle.common.specs.declared.layout.Layout.{Layout}
 use Rattle.cpu.specs.Machine.{Machine}
@@ -8,7 +8,8 @@ use Rattle.registers.specs.State.{with_cpu, with_status, with_filled, with_read,
 use Rattle.registers.specs.declared.state.State.{State}
 use Rattle.cpu.specs.declared.partition.Bounds.{Bounds}
 use Rattle.cpu.specs.declared.partition.Positions.{Positions}
-use Rattle.cpu.specs.declared.port.PortView.{PortView}
+use Rattle.cpu.specs.Port.{Ports}
+use Rattle.cpu.specs.PortView.{ports_of_view}
 use Rattle.steps.specs.declared.result.PackedEffect.{PackedEffect}
 use Rattle.steps.specs.declared.result.PackedEffect.TheVariants.{Nothing, Store, Take, Put}
 use Rattle.registers.specs.declared.cpu.Cpu.{Cpu}
@@ -39,6 +40,21 @@ pub record BoundsHold (b : Bounds) (n : ℕ) : Type 0 where
   pub output_size : b.end < b.output_start + 65536
   pub filled : b.filled < 65536
 
+-- what a step asks of the bounds: the parts end inside n bytes, and start at numbers of their size
+pub record BoundsInside (b : Bounds) (n : ℕ) : Type 0 where
+  pub window_end : b.window_end ≤ n
+  pub input_end : b.input_end ≤ n
+  pub output_end : b.output_end ≤ n
+  pub input_start : b.input_start < 65536
+  pub output_start : b.output_start < 131072
+  pub output_size : b.output_end < b.output_start + 65536
+  pub filled : b.filled < 65536
+
+-- and of the positions: they fit the state that keeps them
+pub record PositionsFit (k : Positions) : Type 0 where
+  pub read : k.read < 65536
+  pub written : k.written < 65536
+
 -- the machine in the bytes, by the bounds: what a run does not touch is as in the state that it was given
 unfoldable pub machine_by_bounds : State → Bounds → Cpu → ℕ → Positions → List ℕ → Machine
 machine_by_bounds given b cpu status k l =
@@ -50,8 +66,14 @@ machine_by_bounds given b cpu status k l =
       output = take (b.end - b.output_start) (drop b.output_start l);
     }
 
-unfoldable pub port_view_of : Bounds → Positions → PortView
-port_view_of b k = record { unread = nat_lt k.read b.filled; at = b.input_start + k.read; full = nat_le b.output_end (b.output_start + k.written) }
+-- what a step may see of the buffers, by the bounds
+unfoldable pub port_view_of : Bounds → Positions → List ℕ → Ports
+port_view_of b k l =
+    record {
+      unread = nat_lt k.read b.filled;
+      byte = slice_index (take b.input_end l) (b.input_start + k.read);
+      full = nat_le b.output_end (b.output_start + k.written);
+    }
 
 -- positions and bytes after an effect
 pub record PartitionAfter : Type 0 where
@@ -70,3 +92,8 @@ apply_effect_of (Put v) b k l =
     when nat_lt (b.output_start + k.written) b.output_end
     then partition_after (record { read = k.read; written = k.written + 1 }) (slice_set l (b.output_start + k.written) (v % 256))
     else partition_after k l
+
+-- a name for a list of definitions: what a run reads and writes by the bounds
+unfoldable pub partition_definitions : Type 0
+unfolding when◌then◌else◌ bounds_of port_view_of apply_effect_of ports_of_view
+partition_definitions = Unit {0}

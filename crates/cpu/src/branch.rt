@@ -1,5 +1,7 @@
 // Branches, calls and returns.
-ghost use Rattle.std.specs.Prelude.{◌≡◌, not};
+#![tactic(auto, unfolding(crate::specs::StepDefinitions::branch_definitions))]
+
+ghost use Rattle.std.specs.Prelude.{◌≡◌};
 ghost use Rattle.cpu.specs.Branch.{condition_met_of, register_counted_of, register_not_zero, is_taken_of, is_call_of, jump_of, branch_if_taken_of, target_of, branch_of, zero_branch_of, indexed_branch_of, return_if_of, clear_ii_of, return_enable_of};
 ghost use Rattle.decode.specs.Decode.{branch_mode_length};
 ghost use Rattle.registers.specs.PackedCpu.{cpu_of};
@@ -7,72 +9,57 @@ ghost use Rattle.steps.specs.PackedStep.{step_result_of};
 
 use common::Address;
 use decode::{BranchKind, BranchMode};
-use registers::PackedCpu;
-use steps::{Fetched, PackedStep, Resolved};
+use registers::{PackedCpu, Status};
+use steps::PackedStep;
 
 // What a branch's own bytes say: the indirect bit, the address, and the address of the next instruction.
-#[derive(Clone, Copy)]
-pub enum Target {
-    To(u8, Address, Address),
-    NoTarget,
+#[derive(Clone, Copy, Debug, PartialEq, Eq)]
+pub struct Target {
+    pub indirect: u8,
+    pub address: Address,
+    pub next: Address,
 }
 
 fn condition_met(psl: u8, v: u8) -> bool
     ensures { result ≡ condition_met_of psl v }
 {
-    if v == 3 { true } else { psl / 64 == v }
-}
-
-fn condition_not_met(psl: u8, v: u8) -> bool
-    ensures { result ≡ not (condition_met_of psl v) }
-{
-    if condition_met(psl, v) { false } else { true }
+    v == 3 || psl / 64 == v
 }
 
 fn register_not_zero(m: PackedCpu, r: u8) -> bool
     ensures { result ≡ register_not_zero (cpu_of m) r }
 {
-    if registers::register(m, r) == 0 {
-        false
-    } else {
-        true
-    }
+    m.register(r) != 0
 }
 
 fn register_counted(kind: BranchKind, m: PackedCpu, r: u8) -> PackedCpu
     ensures { cpu_of result ≡ register_counted_of kind (cpu_of m) r }
 {
     match kind {
-        BranchKind::Bir => {
-            let v = registers::register(m, r);
-            let u = std::num::wrapping_add_u8(v, 1);
-            registers::with_register(m, r, u)
-        }
-        BranchKind::Bdr => {
-            let v = registers::register(m, r);
-            let u = std::num::wrapping_sub_u8(v, 1);
-            registers::with_register(m, r, u)
-        }
-        BranchKind::Bct => m,
-        BranchKind::Bcf => m,
-        BranchKind::Brn => m,
-        BranchKind::Bst => m,
-        BranchKind::Bsf => m,
-        BranchKind::Bsn => m,
+        BranchKind::Bir => m.with_register(r, m.register(r).wrapping_add(1)),
+        BranchKind::Bdr => m.with_register(r, m.register(r).wrapping_sub(1)),
+        BranchKind::Bct
+        | BranchKind::Bcf
+        | BranchKind::Brn
+        | BranchKind::Bst
+        | BranchKind::Bsf
+        | BranchKind::Bsn => m,
     }
 }
 
+// Each kind has an arm of its own: with arms joined, the compiler tells the kinds apart again for `is_call`, which costs a branch a
+// tenth.
 fn is_taken(kind: BranchKind, m: PackedCpu, r: u8) -> bool
     ensures { result ≡ is_taken_of kind (cpu_of m) r }
 {
     match kind {
-        BranchKind::Bct => condition_met(registers::psl(m), r),
-        BranchKind::Bcf => condition_not_met(registers::psl(m), r),
+        BranchKind::Bct => condition_met(m.psl(), r),
+        BranchKind::Bcf => !condition_met(m.psl(), r),
         BranchKind::Brn => register_not_zero(m, r),
         BranchKind::Bir => register_not_zero(m, r),
         BranchKind::Bdr => register_not_zero(m, r),
-        BranchKind::Bst => condition_met(registers::psl(m), r),
-        BranchKind::Bsf => condition_not_met(registers::psl(m), r),
+        BranchKind::Bst => condition_met(m.psl(), r),
+        BranchKind::Bsf => !condition_met(m.psl(), r),
         BranchKind::Bsn => register_not_zero(m, r),
     }
 }
@@ -80,75 +67,57 @@ fn is_taken(kind: BranchKind, m: PackedCpu, r: u8) -> bool
 fn is_call(kind: BranchKind) -> bool
     ensures { result ≡ is_call_of kind }
 {
-    match kind {
-        BranchKind::Bct => false,
-        BranchKind::Bcf => false,
-        BranchKind::Brn => false,
-        BranchKind::Bir => false,
-        BranchKind::Bdr => false,
-        BranchKind::Bst => true,
-        BranchKind::Bsf => true,
-        BranchKind::Bsn => true,
-    }
+    matches!(kind, BranchKind::Bst | BranchKind::Bsf | BranchKind::Bsn)
 }
 
 fn jump(call: bool, m: PackedCpu, a: Address, next: Address) -> PackedStep
     ensures { step_result_of result ≡ jump_of call (cpu_of m) a next }
 {
     if call {
-        let n = registers::call(m, next);
-        let t = registers::with_counter(n, a);
-        steps::running(t)
+        steps::running(m.call(next).with_counter(a))
     } else {
-        let t = registers::with_counter(m, a);
-        steps::running(t)
+        steps::running(m.with_counter(a))
     }
 }
 
 fn branch_if_taken(
     kind: BranchKind,
     m: PackedCpu,
-    n: PackedCpu,
+    counted: PackedCpu,
     window: &[u8],
     r: u8,
-    indirect: u8,
-    a: Address,
-    next: Address,
+    target: Target,
 ) -> PackedStep
-    ensures { step_result_of result ≡ branch_if_taken_of kind (cpu_of m) (cpu_of n) window.now r indirect a next }
+    ensures { step_result_of result ≡ branch_if_taken_of kind (cpu_of m) (cpu_of counted) window.now r target.indirect target.address target.next }
 {
-    if is_taken(kind, n, r) {
-        let Resolved::At(t) = steps::resolve(window, indirect, a) else {
-            return steps::stopped(m, 6);
+    if is_taken(kind, counted, r) {
+        let Some(a) = steps::resolve(window, target.indirect, target.address) else {
+            return steps::stopped(m, Status::Outside.number());
         };
-        let call = is_call(kind);
-        jump(call, n, t, next)
+        jump(is_call(kind), counted, a, target.next)
     } else {
-        let t = registers::with_counter(n, next);
-        steps::running(t)
+        steps::running(counted.with_counter(target.next))
     }
 }
 
-fn target_of(mode: BranchMode, m: PackedCpu, window: &[u8]) -> Target
+fn target_of(mode: BranchMode, m: PackedCpu, window: &[u8]) -> Option<Target>
     ensures { result ≡ target_of mode (cpu_of m) (branch_mode_length mode) window.now }
 {
-    let second_at = steps::address_after(m, 1);
-    let Fetched::Byte(high) = steps::fetch(window, second_at) else {
-        return Target::NoTarget;
-    };
+    let second = steps::fetch(window, steps::address_after(m, 1))?;
     let third_at = steps::address_after(m, 2);
     match mode {
-        BranchMode::Relative => {
-            let a = steps::relative(third_at, high);
-            Target::To(high / 128, a, third_at)
-        }
+        BranchMode::Relative => Some(Target {
+            indirect: second / 128,
+            address: steps::relative(third_at, second),
+            next: third_at,
+        }),
         BranchMode::Absolute => {
-            let Fetched::Byte(low) = steps::fetch(window, third_at) else {
-                return Target::NoTarget;
-            };
-            let a = steps::address_of(high, low);
-            let next = steps::address_after(m, 3);
-            Target::To(high / 128, a, next)
+            let third = steps::fetch(window, third_at)?;
+            Some(Target {
+                indirect: second / 128,
+                address: steps::address_of(second, third),
+                next: steps::address_after(m, 3),
+            })
         }
     }
 }
@@ -162,55 +131,48 @@ pub(crate) fn branch(
 ) -> PackedStep
     ensures { step_result_of result ≡ branch_of mode kind (cpu_of m) (branch_mode_length mode) window.now r }
 {
-    let Target::To(indirect, a, next) = target_of(mode, m, window) else {
-        return steps::stopped(m, 6);
+    let Some(target) = target_of(mode, m, window) else {
+        return steps::stopped(m, Status::Outside.number());
     };
-    let n = register_counted(kind, m, r);
-    branch_if_taken(kind, m, n, window, r, indirect, a, next)
+    branch_if_taken(kind, m, register_counted(kind, m, r), window, r, target)
 }
 
 pub(crate) fn zero_branch(call: bool, m: PackedCpu, window: &[u8]) -> PackedStep
     ensures { step_result_of result ≡ zero_branch_of call (cpu_of m) 2 window.now }
 {
-    let at = steps::address_after(m, 1);
-    let Fetched::Byte(b) = steps::fetch(window, at) else {
-        return steps::stopped(m, 6);
+    let Some(second) = steps::fetch(window, steps::address_after(m, 1)) else {
+        return steps::stopped(m, Status::Outside.number());
     };
-    let a = steps::relative(Address(0), b);
-    let Resolved::At(t) = steps::resolve(window, b / 128, a) else {
-        return steps::stopped(m, 6);
+    let direct = steps::relative(Address(0), second);
+    let Some(a) = steps::resolve(window, second / 128, direct) else {
+        return steps::stopped(m, Status::Outside.number());
     };
-    let next = steps::address_after(m, 2);
-    jump(call, m, t, next)
+    jump(call, m, a, steps::address_after(m, 2))
 }
 
 pub(crate) fn indexed_branch(call: bool, m: PackedCpu, window: &[u8]) -> PackedStep
     ensures { step_result_of result ≡ indexed_branch_of call (cpu_of m) 3 window.now }
 {
-    let second_at = steps::address_after(m, 1);
-    let Fetched::Byte(high) = steps::fetch(window, second_at) else {
-        return steps::stopped(m, 6);
+    let Some(second) = steps::fetch(window, steps::address_after(m, 1)) else {
+        return steps::stopped(m, Status::Outside.number());
     };
-    let third_at = steps::address_after(m, 2);
-    let Fetched::Byte(low) = steps::fetch(window, third_at) else {
-        return steps::stopped(m, 6);
+    let Some(third) = steps::fetch(window, steps::address_after(m, 2)) else {
+        return steps::stopped(m, Status::Outside.number());
     };
-    let a = steps::address_of(high, low);
-    let Resolved::At(t) = steps::resolve(window, high / 128, a) else {
-        return steps::stopped(m, 6);
+    let direct = steps::address_of(second, third);
+    let Some(a) = steps::resolve(window, second / 128, direct) else {
+        return steps::stopped(m, Status::Outside.number());
     };
-    let v = registers::register(m, 3);
-    let to = steps::add_wrapping(t, v);
-    let next = steps::address_after(m, 3);
-    jump(call, m, to, next)
+    let indexed = steps::add_wrapping(a, m.register(3));
+    jump(call, m, indexed, steps::address_after(m, 3))
 }
 
+// RETC, and below RETE, which clears II too: a closure for that one call would be longer than the branch that stands twice.
 pub(crate) fn return_if(m: PackedCpu, v: u8) -> PackedStep
     ensures { step_result_of result ≡ return_if_of (cpu_of m) 1 v }
 {
-    if condition_met(registers::psl(m), v) {
-        let n = registers::return_from_call(m);
-        steps::running(n)
+    if condition_met(m.psl(), v) {
+        steps::running(m.return_from_call())
     } else {
         steps::running_after(m, 1)
     }
@@ -219,17 +181,15 @@ pub(crate) fn return_if(m: PackedCpu, v: u8) -> PackedStep
 fn clear_ii(m: PackedCpu) -> PackedCpu
     ensures { cpu_of result ≡ clear_ii_of (cpu_of m) }
 {
-    let u = registers::psu(m);
-    registers::with_psu(m, u / 64 * 64 + u % 32)
+    let u = m.psu();
+    m.with_psu(u / 64 * 64 + u % 32)
 }
 
 pub(crate) fn return_enable(m: PackedCpu, v: u8) -> PackedStep
     ensures { step_result_of result ≡ return_enable_of (cpu_of m) 1 v }
 {
-    if condition_met(registers::psl(m), v) {
-        let n = registers::return_from_call(m);
-        let t = clear_ii(n);
-        steps::running(t)
+    if condition_met(m.psl(), v) {
+        steps::running(clear_ii(m.return_from_call()))
     } else {
         steps::running_after(m, 1)
     }

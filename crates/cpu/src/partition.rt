@@ -1,9 +1,11 @@
 // A partition's parts by their bounds: what a step sees of them, and what it writes.
-ghost use Rattle.std.specs.Prelude.{◌≡◌, ◌<◌, ◌≤◌, min, length, take};
+#![tactic(auto, unfolding(crate::specs::Partition::partition_definitions))]
+
+ghost use Rattle.std.specs.Prelude.{◌≡◌, length, take};
 ghost use Rattle.registers.specs.PackedCpu.{cpu_of};
 ghost use Rattle.steps.specs.PackedStep.{step_result_of};
 ghost use Rattle.cpu.specs.PortView.{ports_of_view};
-ghost use Rattle.cpu.specs.Partition.{bounds_of, BoundsHold, port_view_of, partition_after, apply_effect_of};
+ghost use Rattle.cpu.specs.Partition.{bounds_of, BoundsHold, BoundsInside, PositionsFit, port_view_of, partition_after, apply_effect_of};
 ghost use Rattle.cpu.specs.Instruction.{instruction_step};
 
 use crate::instruction;
@@ -15,7 +17,7 @@ use steps::{PackedEffect, PackedStep};
 // The bounds of a partition's parts. `window_end`, `input_end` and `output_end` are cut at the end of the bytes at hand; `input_start`,
 // `output_start` and `end` are as the sizes have them. `locked` is how many bytes of the window are locked, and `filled` how far the input
 // is filled. The loop of a run knows the layout by these alone.
-#[derive(Clone, Copy)]
+#[derive(Clone, Copy, Debug, PartialEq, Eq)]
 pub struct Bounds {
     pub window_end: usize,
     pub input_start: usize,
@@ -27,17 +29,12 @@ pub struct Bounds {
     pub filled: usize,
 }
 
-#[derive(Clone, Copy)]
+// How far the input is read and the output written. Whole words, since the loop of a run keeps them: as `u16`, of which no bound has to be
+// said, they cost a step up to a tenth.
+#[derive(Clone, Copy, Debug, PartialEq, Eq)]
 pub struct Positions {
     pub read: usize,
     pub written: usize,
-}
-
-fn min(a: usize, b: usize) -> usize
-    ensures value { result ≡ min a b }
-    ensures upper_bound { result ≤ b }
-{
-    if a < b { a } else { b }
 }
 
 pub(crate) fn bounds_of(layout: Layout, filled: u16, available: usize) -> Bounds
@@ -47,32 +44,28 @@ pub(crate) fn bounds_of(layout: Layout, filled: u16, available: usize) -> Bounds
     let input_start = layout.window as usize;
     let output_start = input_start + layout.input as usize;
     let end = output_start + layout.output as usize;
-    let window_end = min(input_start, available);
-    let input_end = min(output_start, available);
-    let output_end = min(end, available);
     Bounds {
-        window_end,
+        window_end: input_start.min(available),
         input_start,
-        input_end,
+        input_end: output_start.min(available),
         output_start,
-        output_end,
+        output_end: end.min(available),
         end,
         locked: layout.locked as usize,
         filled: filled as usize,
     }
 }
 
-fn port_view(b: Bounds, k: Positions) -> PortView
-    requires input_start_bound { b.input_start < 65536 }
-    requires output_start_bound { b.output_start < 131072 }
-    requires read_bound { k.read < 65536 }
-    requires written_bound { k.written < 65536 }
-    ensures { result ≡ port_view_of b k }
+fn port_view<'a>(partition: &'a [u8], bounds: Bounds, positions: Positions) -> PortView<'a>
+    requires bounds_inside { BoundsInside bounds (length partition.now) }
+    requires positions_fit { PositionsFit positions }
+    ensures { ports_of_view result ≡ port_view_of bounds positions partition.now }
 {
     PortView {
-        unread: k.read < b.filled,
-        at: b.input_start + k.read,
-        full: b.output_end <= b.output_start + k.written,
+        unread: positions.read < bounds.filled,
+        source: &partition[..bounds.input_end],
+        at: bounds.input_start + positions.read,
+        full: bounds.output_end <= bounds.output_start + positions.written,
     }
 }
 
@@ -80,71 +73,59 @@ fn port_view(b: Bounds, k: Positions) -> PortView
 pub(crate) fn step_in_partition(
     m: PackedCpu,
     partition: &[u8],
-    b: Bounds,
-    k: Positions,
+    bounds: Bounds,
+    positions: Positions,
 ) -> PackedStep
-    requires window_end_in_bounds { b.window_end ≤ length partition.now }
-    requires input_end_in_bounds { b.input_end ≤ length partition.now }
-    requires input_start_bound { b.input_start < 65536 }
-    requires output_start_bound { b.output_start < 131072 }
-    requires read_bound { k.read < 65536 }
-    requires written_bound { k.written < 65536 }
-    ensures { step_result_of result ≡ instruction_step (cpu_of m) (take b.window_end partition.now) b.locked (ports_of_view (port_view_of b k) (take b.input_end partition.now)) }
+    requires bounds_inside { BoundsInside bounds (length partition.now) }
+    requires positions_fit { PositionsFit positions }
+    ensures { step_result_of result ≡ instruction_step (cpu_of m) (take bounds.window_end partition.now) bounds.locked (port_view_of bounds positions partition.now) }
 {
-    let o = port_view(b, k);
-    let window_end = b.window_end;
-    let input_end = b.input_end;
-    instruction::step(
-        m,
-        &partition[..window_end],
-        b.locked,
-        &partition[..input_end],
-        o,
-    )
+    let ports = port_view(partition, bounds, positions);
+    instruction::step(m, &partition[..bounds.window_end], bounds.locked, ports)
 }
 
 // The one write of a step.
 pub(crate) fn apply_effect(
     partition: &mut [u8],
     effect: PackedEffect,
-    b: Bounds,
-    k: Positions,
+    bounds: Bounds,
+    positions: Positions,
 ) -> Positions
-    requires window_end_in_bounds { b.window_end ≤ length partition.old }
-    requires output_end_in_bounds { b.output_end ≤ length partition.old }
-    requires output_start_bound { b.output_start < 131072 }
-    requires read_bound { k.read < 65536 }
-    requires written_bound { k.written < 65536 }
-    ensures { partition_after result partition.new ≡ apply_effect_of effect b k partition.old }
+    requires bounds_inside { BoundsInside bounds (length partition.old) }
+    requires positions_fit { PositionsFit positions }
+    ensures positions_fit { PositionsFit result }
+    ensures effect_applied { partition_after result partition.new ≡ apply_effect_of effect bounds positions partition.old }
 {
     match effect {
-        PackedEffect::Nothing => k,
-        PackedEffect::Store(a, v) => {
-            let at = a as usize;
-            if at < b.window_end {
-                partition[at] = (v % 256) as u8;
+        PackedEffect::Nothing => positions,
+        PackedEffect::Store { address, byte } => {
+            let at = address as usize;
+            if at < bounds.window_end {
+                partition[at] = (byte % 256) as u8;
             }
-            k
+            positions
         }
         PackedEffect::Take => {
-            if k.read < b.filled {
-                return Positions {
-                    read: k.read + 1,
-                    written: k.written,
-                };
+            if positions.read < bounds.filled {
+                Positions {
+                    read: positions.read + 1,
+                    ..positions
+                }
+            } else {
+                positions
             }
-            k
         }
-        PackedEffect::Put(v) => {
-            let at = b.output_start + k.written;
-            if at < b.output_end {
-                partition[at] = (v % 256) as u8;
-                return Positions {
-                    read: k.read,
-                    written: k.written + 1,
-                };
+        PackedEffect::Put { byte } => {
+            let at = bounds.output_start + positions.written;
+            if at < bounds.output_end {
+                partition[at] = (byte % 256) as u8;
+                Positions {
+                    written: positions.written + 1,
+                    ..positions
+                }
+            } else {
+                positions
             }
-            k
         }
     }
 }

@@ -2,3 +2,5 @@
 pub mod Decode
 -- Laws that the checker has shown.
 pub mod DecodeLaws
+-- Names for lists of definitions.
+pub mod DecodeDefinitions

@@ -1,11 +1,11 @@
 // The instruction of each first byte, and how many bytes an instruction has.
 ghost use Rattle.std.specs.Prelude.{◌≡◌};
-ghost use Rattle.decode.specs.Decode.{each_of_four, first_and_rest, rest_and_last, decode_of, mode_length, branch_mode_length, instruction_length};
+ghost use Rattle.decode.specs.Decode.{decode_of, mode_length, branch_mode_length, instruction_length};
 
 use alu::Operation;
 
 // Where the operand stands: mnemonics that end in Z, I, R and A.
-#[derive(Clone, Copy)]
+#[derive(Clone, Copy, Debug, PartialEq, Eq)]
 pub enum Mode {
     Register,
     Immediate,
@@ -14,21 +14,21 @@ pub enum Mode {
 }
 
 // What is done with it: it is worked on, or a register is stored over it.
-#[derive(Clone, Copy)]
+#[derive(Clone, Copy, Debug, PartialEq, Eq)]
 pub enum Access {
     Read(Operation),
     Write,
 }
 
 // How a branch names its target: relative, with two bytes, or absolute, with three.
-#[derive(Clone, Copy)]
+#[derive(Clone, Copy, Debug, PartialEq, Eq)]
 pub enum BranchMode {
     Relative,
     Absolute,
 }
 
 // The branches on a condition or a register; the last three are calls.
-#[derive(Clone, Copy)]
+#[derive(Clone, Copy, Debug, PartialEq, Eq)]
 pub enum BranchKind {
     Bct,
     Bcf,
@@ -43,7 +43,7 @@ pub enum BranchKind {
 // REDC and WRTC, of one byte, name an unused port; REDE and WRTE, of two, an extended one, which is unused too. Each kind of
 // instruction that needs code of some size stands here once, with what differs inside it: such code then has one caller, and
 // is compiled into it.
-#[derive(Clone, Copy)]
+#[derive(Clone, Copy, Debug, PartialEq, Eq)]
 pub enum Instruction {
     Unknown,
     ControlPort,
@@ -77,46 +77,13 @@ pub enum Instruction {
     Bsxa,
 }
 
-fn each_of_four(
-    a: Instruction,
-    b: Instruction,
-    c: Instruction,
-    d: Instruction,
-    r: u8,
-) -> Instruction
-    ensures { result ≡ each_of_four a b c d r }
-{
-    if r == 0 {
-        a
-    } else if r == 1 {
-        b
-    } else if r == 2 {
-        c
-    } else {
-        d
-    }
-}
-
-fn first_and_rest(a: Instruction, others: Instruction, r: u8) -> Instruction
-    ensures { result ≡ first_and_rest a others r }
-{
-    if r == 0 { a } else { others }
-}
-
-fn rest_and_last(others: Instruction, d: Instruction, r: u8) -> Instruction
-    ensures { result ≡ rest_and_last others d r }
-{
-    if r == 3 { d } else { others }
-}
-
 impl Mode {
     fn length(self) -> u16
         ensures { result ≡ mode_length self }
     {
         match self {
             Mode::Register => 1,
-            Mode::Immediate => 2,
-            Mode::Relative => 2,
+            Mode::Immediate | Mode::Relative => 2,
             Mode::Absolute => 3,
         }
     }
@@ -135,6 +102,7 @@ impl BranchMode {
 
 impl Instruction {
     // The instruction of a first byte. Its last two bits name a register or a condition beside it.
+    #[tactic(auto, unfolding(crate::specs::DecodeDefinitions::decode_definitions))]
     pub fn decode(op: u8) -> Instruction
         ensures { result ≡ decode_of op }
     {
@@ -150,13 +118,11 @@ impl Instruction {
             // 0C LODA
             3 => Instruction::Operate(Mode::Absolute, Access::Read(Operation::Lod)),
             // 10, 11 unknown, 12 SPSU, 13 SPSL
-            4 => each_of_four(
-                Instruction::Unknown,
-                Instruction::Unknown,
-                Instruction::Spsu,
-                Instruction::Spsl,
-                r,
-            ),
+            4 => match r {
+                0 | 1 => Instruction::Unknown,
+                2 => Instruction::Spsu,
+                _ => Instruction::Spsl,
+            },
             // 14 RETC
             5 => Instruction::Retc,
             // 18 BCTR
@@ -180,11 +146,10 @@ impl Instruction {
             // 3C BSTA
             15 => Instruction::Branch(BranchMode::Absolute, BranchKind::Bst),
             // 40 HALT, 41 ANDZ
-            16 => first_and_rest(
-                Instruction::Halt,
-                Instruction::Operate(Mode::Register, Access::Read(Operation::And)),
-                r,
-            ),
+            16 => match r {
+                0 => Instruction::Halt,
+                _ => Instruction::Operate(Mode::Register, Access::Read(Operation::And)),
+            },
             // 44 ANDI
             17 => Instruction::Operate(Mode::Immediate, Access::Read(Operation::And)),
             // 48 ANDR
@@ -210,13 +175,12 @@ impl Instruction {
             // 70 REDD
             28 => Instruction::Redd,
             // 74 CPSU, 75 CPSL, 76 PPSU, 77 PPSL
-            29 => each_of_four(
-                Instruction::Cpsu,
-                Instruction::Cpsl,
-                Instruction::Ppsu,
-                Instruction::Ppsl,
-                r,
-            ),
+            29 => match r {
+                0 => Instruction::Cpsu,
+                1 => Instruction::Cpsl,
+                2 => Instruction::Ppsu,
+                _ => Instruction::Ppsl,
+            },
             // 78 BSNR
             30 => Instruction::Branch(BranchMode::Relative, BranchKind::Bsn),
             // 7C BSNA
@@ -230,27 +194,23 @@ impl Instruction {
             // 8C ADDA
             35 => Instruction::Operate(Mode::Absolute, Access::Read(Operation::Add)),
             // 90, 91 unknown, 92 LPSU, 93 LPSL
-            36 => each_of_four(
-                Instruction::Unknown,
-                Instruction::Unknown,
-                Instruction::Lpsu,
-                Instruction::Lpsl,
-                r,
-            ),
+            36 => match r {
+                0 | 1 => Instruction::Unknown,
+                2 => Instruction::Lpsu,
+                _ => Instruction::Lpsl,
+            },
             // 94 DAR
             37 => Instruction::Dar,
             // 98 BCFR, 9B ZBRR
-            38 => rest_and_last(
-                Instruction::Branch(BranchMode::Relative, BranchKind::Bcf),
-                Instruction::Zbrr,
-                r,
-            ),
+            38 => match r {
+                3 => Instruction::Zbrr,
+                _ => Instruction::Branch(BranchMode::Relative, BranchKind::Bcf),
+            },
             // 9C BCFA, 9F BXA
-            39 => rest_and_last(
-                Instruction::Branch(BranchMode::Absolute, BranchKind::Bcf),
-                Instruction::Bxa,
-                r,
-            ),
+            39 => match r {
+                3 => Instruction::Bxa,
+                _ => Instruction::Branch(BranchMode::Absolute, BranchKind::Bcf),
+            },
             // A0 SUBZ
             40 => Instruction::Operate(Mode::Register, Access::Read(Operation::Sub)),
             // A4 SUBI
@@ -262,27 +222,26 @@ impl Instruction {
             // B0 WRTC
             44 => Instruction::ControlPort,
             // B4 TPSU, B5 TPSL, B6, B7 unknown
-            45 => each_of_four(
-                Instruction::Tpsu,
-                Instruction::Tpsl,
-                Instruction::Unknown,
-                Instruction::Unknown,
-                r,
-            ),
+            45 => match r {
+                0 => Instruction::Tpsu,
+                1 => Instruction::Tpsl,
+                _ => Instruction::Unknown,
+            },
             // B8 BSFR, BB ZBSR
-            46 => rest_and_last(
-                Instruction::Branch(BranchMode::Relative, BranchKind::Bsf),
-                Instruction::Zbsr,
-                r,
-            ),
+            46 => match r {
+                3 => Instruction::Zbsr,
+                _ => Instruction::Branch(BranchMode::Relative, BranchKind::Bsf),
+            },
             // BC BSFA, BF BSXA
-            47 => rest_and_last(
-                Instruction::Branch(BranchMode::Absolute, BranchKind::Bsf),
-                Instruction::Bsxa,
-                r,
-            ),
+            47 => match r {
+                3 => Instruction::Bsxa,
+                _ => Instruction::Branch(BranchMode::Absolute, BranchKind::Bsf),
+            },
             // C0 NOP, C1 STRZ
-            48 => first_and_rest(Instruction::Nop, Instruction::Strz, r),
+            48 => match r {
+                0 => Instruction::Nop,
+                _ => Instruction::Strz,
+            },
             // C4 to C7 unknown
             49 => Instruction::Unknown,
             // C8 STRR
@@ -322,36 +281,35 @@ impl Instruction {
         ensures { result ≡ instruction_length self }
     {
         match self {
-            Instruction::Unknown => 1,
-            Instruction::ControlPort => 1,
-            Instruction::ExtendedPort => 2,
             Instruction::Operate(mode, _access) => mode.length(),
-            Instruction::Strz => 1,
-            Instruction::Nop => 1,
-            Instruction::Halt => 1,
-            Instruction::Spsu => 1,
-            Instruction::Spsl => 1,
-            Instruction::Lpsu => 1,
-            Instruction::Lpsl => 1,
-            Instruction::Cpsu => 2,
-            Instruction::Cpsl => 2,
-            Instruction::Ppsu => 2,
-            Instruction::Ppsl => 2,
-            Instruction::Tpsu => 2,
-            Instruction::Tpsl => 2,
-            Instruction::Tmi => 2,
-            Instruction::Dar => 1,
-            Instruction::Rrr => 1,
-            Instruction::Rrl => 1,
-            Instruction::Redd => 1,
-            Instruction::Wrtd => 1,
-            Instruction::Retc => 1,
-            Instruction::Rete => 1,
             Instruction::Branch(mode, _kind) => mode.length(),
-            Instruction::Zbrr => 2,
-            Instruction::Zbsr => 2,
-            Instruction::Bxa => 3,
-            Instruction::Bsxa => 3,
+            Instruction::Unknown
+            | Instruction::ControlPort
+            | Instruction::Strz
+            | Instruction::Nop
+            | Instruction::Halt
+            | Instruction::Spsu
+            | Instruction::Spsl
+            | Instruction::Lpsu
+            | Instruction::Lpsl
+            | Instruction::Dar
+            | Instruction::Rrr
+            | Instruction::Rrl
+            | Instruction::Redd
+            | Instruction::Wrtd
+            | Instruction::Retc
+            | Instruction::Rete => 1,
+            Instruction::Cpsu
+            | Instruction::Cpsl
+            | Instruction::Ppsu
+            | Instruction::Ppsl
+            | Instruction::Tpsu
+            | Instruction::Tpsl
+            | Instruction::Tmi
+            | Instruction::Zbrr
+            | Instruction::Zbsr
+            | Instruction::ExtendedPort => 2,
+            Instruction::Bxa | Instruction::Bsxa => 3,
         }
     }
 }

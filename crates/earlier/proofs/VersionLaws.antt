@@ -2,9 +2,13 @@
 use mathlib.Core.Bool.{Bool, true, false, ◌&&◌}
 use mathlib.Core.List.{List, [], ◌∷◌}
 use mathlib.Core.Path.{◌≡◌, refl, sym, ap, ◌∙◌}
-use Prim.Native.Nat.{ℕ, ◌+◌, ◌-◌}
+use Rattle.std.specs.List.{list_all}
+use Rattle.std.proofs.lemmas.List.Folds.{list_all_more}
+use Rattle.common.specs.Tests.{all_below}
+use native.Mathlib.Numerals.{add-one}
+use Prim.Native.Nat.{ℕ, zero, suc, ◌≤◌, ◌+◌, ◌-◌}
 use native.Mathlib.Omega.{arith}
-use lib.ListN.{length, take, drop, length-append, length-drop}
+use lib.ListN.{length, get_or, take, drop, length-append, length-drop}
 use lib.Seq.{length-take-le, take_all}
 use Rattle.common.specs.ConditionDefinitions.{condition_definitions}
 use Rattle.common.specs.Refusals.{refusal_by}
@@ -13,7 +17,8 @@ use Rattle.slices.specs.PieceLaws.{copied_each_law}
 use Rattle.slices.specs.SliceLaws.{copied_all}
 use Rattle.slices.specs.Slices.{copied, part_of}
 use Rattle.table.specs.TableConditions.{table_conditions}
-use Rattle.table.specs.Recounting.{answer, recount_of}
+use Rattle.table.specs.Recounting.{recount_of}
+use Rattle.table.specs.Table.{answer}
 use Rattle.table.specs.Sound.{slots_sound, table_sound}
 use Rattle.table.specs.SoundLaws.{counted_same, table_fact}
 use Rattle.table.specs.declared.table.Table.{Table}
@@ -41,6 +46,17 @@ module _ (old : List ℕ) (t : Table) (held : t ≡ held_table old) where
       go : (b : Bool) → table_sound (held_table old) ≡ b → answer n t ≡ upgrade_of old
       go true h = rw (e, holds, q, held, h) (ap (answer 0) (sym (counted_same (held_table old) (table_fact (held_table old) h))))
       go false h = rw (e, holds, q, held, h) refl
+
+-- ---- a test of every slot
+
+-- a test of each element of a list, by their places
+pub all_listed : {A : Type 0} (test : A → Bool) (d : A) (l : List A) (n : ℕ) → length l ≡ n → list_all test l ≡ all_below n (λ k. test (get_or l k d))
+unfolding all_below
+all_listed {A} test d l n e = ap (list_all test) (sym (take_all n l (omega arith))) ∙ go n (omega arith)
+  where
+    go : (i : ℕ) → i ≤ length l → list_all test (take i l) ≡ all_below i (λ k. test (get_or l k d))
+    go zero q = refl
+    go (suc i) q = rw (← add-one i) (list_all_more test l i d q) ∙ ap (λ (b : Bool). b && test (get_or l i d)) (go i (omega arith))
 
 -- ---- a slot of an earlier version
 

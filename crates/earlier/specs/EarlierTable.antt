@@ -8,10 +8,10 @@ use Rattle.encoding.specs.TableEncoding.{slots_offset, table_length, slot_from_b
 use Rattle.slices.specs.Numbers.{u16_bytes, u32_at}
 use Rattle.slices.specs.Slices.{concat, part_of, tabulate}
 use Rattle.table.specs.FreeBytes.{counted}
-use Rattle.table.specs.Recounting.{answer}
+use Rattle.table.specs.Table.{answer}
 use Rattle.table.specs.Sound.{slots_sound, table_sound}
 use Rattle.table.specs.Table.{slot_at}
-use Rattle.table.specs.declared.table.Answer.{Answer}
+use Rattle.table.specs.Table.{Answer}
 use Rattle.table.specs.declared.table.Slot.{Slot}
 use Rattle.table.specs.declared.table.Table.{Table}
 

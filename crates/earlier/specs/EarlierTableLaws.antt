@@ -14,7 +14,7 @@ use Rattle.slices.specs.PieceLaws.{each_tabulated}
 use Rattle.slices.specs.SliceLaws.{part_length}
 use Rattle.slices.specs.Slices.{part_of}
 use Rattle.table.specs.FreeBytes.{counted}
-use Rattle.table.specs.Recounting.{answer}
+use Rattle.table.specs.Table.{answer}
 use Rattle.table.specs.Sound.{slots_sound, table_sound}
 use Rattle.table.specs.SoundLaws.{slots_test, table_fact}
 use Rattle.table.specs.Table.{no_slot, slot_at}

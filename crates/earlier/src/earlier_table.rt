@@ -2,11 +2,15 @@
 ghost use Rattle.std.specs.Prelude.{◌≡◌, ◌+◌, ◌*◌, ◌≤◌, length};
 ghost use Rattle.encoding.specs.TableEncoding.{slot_from_bytes};
 ghost use Rattle.earlier.specs.EarlierTable.{unlocked_slot_length, unlocked_table_length, uncounted_table_length, with_no_lock, unlocked_slots_from_bytes, unlocked_table_from_bytes, uncounted_table_from_bytes, statuses_up_to, upgrade_of};
+ghost use Rattle.common.specs.Refusals.{refusal_by};
 ghost use Rattle.slices.specs.Slices.{part_of};
+ghost use Rattle.table.specs.Table.{answer, answer_in};
+ghost use Rattle.table.specs.TableConditions.{table_conditions};
 
+use common::Refusal;
 use encoding::{SLOT_LENGTH, SLOTS_OFFSET, TABLE_LENGTH, decode_slot, decode_table};
 use slices::{copy, front, part, put_u16, rest, u32_at};
-use table::{Answer, Slot, Table};
+use table::{RefusedCall, Slot, Table, check_table};
 
 // Before a slot kept its lock: how many bytes a slot and a table had, the last status, and where today's slot has the lock.
 const UNLOCKED_SLOT_LENGTH: usize = 45;
@@ -36,44 +40,39 @@ fn decode_unlocked_slot(bytes: &[u8], at: usize) -> Slot
 }
 
 // The eight such slots whose bytes start at an offset.
+#[tactic(auto, using(slices::specs::PieceLaws::tabulated_none, slices::specs::PieceLaws::tabulated_next, slices::specs::PieceLaws::tabulated_all))]
 fn decode_unlocked_slots(bytes: &[u8], at: usize) -> [Slot; 8]
     requires { at + 8 * unlocked_slot_length ≤ length bytes.now }
     ensures { result ≡ unlocked_slots_from_bytes at bytes.now }
 {
-    let first = decode_unlocked_slot(bytes, at);
-    let mut slots = [first; 8];
-    let mut k: usize = 0;
-    while k < Table::SLOTS {
-        slots[k] = decode_unlocked_slot(bytes, at + UNLOCKED_SLOT_LENGTH * k);
-        k += 1;
+    let mut slots = [Slot::empty(); Table::SLOTS];
+    for (k, slot) in slots.iter_mut().enumerate() {
+        *slot = decode_unlocked_slot(bytes, at + UNLOCKED_SLOT_LENGTH * k);
     }
     slots
 }
 
+#[tactic(auto, unfolding(crate::specs::EarlierTable::unlocked_table_from_bytes))]
 fn decode_unlocked(bytes: &[u8]) -> Table
     requires { length bytes.now ≡ unlocked_table_length }
     ensures { result ≡ unlocked_table_from_bytes bytes.now }
 {
-    let size = u32_at(bytes, 0);
-    let free = u32_at(bytes, 4);
-    let widest = u32_at(bytes, 8);
-    let slots = decode_unlocked_slots(bytes, SLOTS_OFFSET);
     Table {
-        size,
-        free,
-        widest,
-        slots,
+        size: u32_at(bytes, 0),
+        free: u32_at(bytes, 4),
+        widest: u32_at(bytes, 8),
+        slots: decode_unlocked_slots(bytes, SLOTS_OFFSET),
     }
 }
 
+#[tactic(auto, unfolding(crate::specs::EarlierTable::uncounted_table_from_bytes))]
 fn decode_uncounted(bytes: &[u8]) -> Table
     requires { length bytes.now ≡ uncounted_table_length }
     ensures { result ≡ uncounted_table_from_bytes bytes.now }
 {
-    let size = u32_at(bytes, 0);
     let slots = decode_unlocked_slots(bytes, UNCOUNTED_SLOTS_OFFSET);
     Table {
-        size,
+        size: u32_at(bytes, 0),
         free: 0,
         widest: 0,
         slots,
@@ -84,44 +83,42 @@ fn decode_uncounted(bytes: &[u8]) -> Table
 fn statuses_up_to(last: u8, table: Table) -> bool
     ensures { result ≡ statuses_up_to last table }
 {
-    let mut ok = true;
-    let mut k: usize = 0;
-    while k < Table::SLOTS {
-        let s = table.slots[k];
-        let state = s.state;
-        ok = ok & (state.status <= last);
-        k += 1;
-    }
-    ok
+    table.slots.iter().all(|s| s.state.status <= last)
 }
 
-// The table that `old` holds, in today's form. It is refused by 1 if it is not sound by the rules of its version.
-pub fn upgrade_table(old: &[u8]) -> Answer
-    ensures { result ≡ upgrade_of old.now }
+// The table as it is, if it is sound by the rules of a table.
+fn judged(table: Table) -> Result<Table, RefusedCall>
+    ensures { answer_in result ≡ answer (refusal_by (table_conditions table)) table }
 {
-    if old.len() == UNCOUNTED_TABLE_LENGTH {
-        let table = decode_uncounted(old);
-        if !statuses_up_to(LAST_UNLOCKED_STATUS, table) {
-            return Answer { refusal: 1, table };
+    check_table(table)
+        .map(|()| table)
+        .map_err(|refusal| RefusedCall { refusal, table })
+}
+
+// The table that `old` holds, in today's form. It is refused if it is not sound by the rules of its version.
+pub fn upgrade_table(old: &[u8]) -> Result<Table, RefusedCall>
+    ensures { answer_in result ≡ upgrade_of old.now }
+{
+    let refusal = Refusal::NotSound;
+    match old.len() {
+        UNCOUNTED_TABLE_LENGTH => {
+            let table = decode_uncounted(old);
+            if !statuses_up_to(LAST_UNLOCKED_STATUS, table) {
+                return Err(RefusedCall { refusal, table });
+            }
+            table::recount(table)
         }
-        return table::recount(table);
-    }
-    if old.len() == UNLOCKED_TABLE_LENGTH {
-        let table = decode_unlocked(old);
-        if !statuses_up_to(LAST_UNLOCKED_STATUS, table) {
-            return Answer { refusal: 1, table };
+        UNLOCKED_TABLE_LENGTH => {
+            let table = decode_unlocked(old);
+            if !statuses_up_to(LAST_UNLOCKED_STATUS, table) {
+                return Err(RefusedCall { refusal, table });
+            }
+            judged(table)
         }
-        return Answer {
-            refusal: table::table_refusal(table),
-            table,
-        };
-    }
-    let table = decode_table(old);
-    if old.len() != TABLE_LENGTH {
-        return Answer { refusal: 1, table };
-    }
-    Answer {
-        refusal: table::table_refusal(table),
-        table,
+        TABLE_LENGTH => judged(decode_table(old)),
+        _ => Err(RefusedCall {
+            refusal,
+            table: decode_table(old),
+        }),
     }
 }

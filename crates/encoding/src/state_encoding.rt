@@ -4,66 +4,49 @@ ghost use Rattle.encoding.specs.StateEncoding.{cpu_from_bytes, registers_from_by
 
 use registers::{Cpu, State};
 use slices::{byte, copy, put_byte, put_u16, put_u16s, u16_at};
+use std::array;
 
 // How many bytes a state has.
 pub const STATE_LENGTH: usize = 34;
 
+#[tactic(auto, unfolding(crate::specs::StateEncoding::registers_from_bytes))]
 fn decode_registers(bytes: &[u8]) -> [u8; 7]
     ensures { result ≡ registers_from_bytes bytes.now }
 {
-    let mut registers = [0u8; 7];
-    let mut i: usize = 0;
-    while i < 7 {
-        registers[i] = byte(bytes, 2 + i);
-        i += 1;
-    }
-    registers
+    array::from_fn(|i| byte(bytes, 2 + i))
 }
 
+#[tactic(auto, unfolding(crate::specs::StateEncoding::returns_from_bytes))]
 fn decode_returns(bytes: &[u8]) -> [u16; 8]
     ensures { result ≡ returns_from_bytes bytes.now }
 {
-    let mut returns = [0u16; 8];
-    let mut i: usize = 0;
-    while i < 8 {
-        returns[i] = u16_at(bytes, 11 + 2 * i);
-        i += 1;
-    }
-    returns
+    array::from_fn(|i| u16_at(bytes, 11 + 2 * i))
 }
 
+#[tactic(auto, unfolding(crate::specs::StateEncoding::cpu_from_bytes))]
 fn decode_cpu(bytes: &[u8]) -> Cpu
     ensures { result ≡ cpu_from_bytes bytes.now }
 {
-    let counter = u16_at(bytes, 0);
-    let registers = decode_registers(bytes);
-    let psu = byte(bytes, 9);
-    let psl = byte(bytes, 10);
-    let returns = decode_returns(bytes);
     Cpu {
-        counter,
-        registers,
-        psu,
-        psl,
-        returns,
+        counter: u16_at(bytes, 0),
+        registers: decode_registers(bytes),
+        psu: byte(bytes, 9),
+        psl: byte(bytes, 10),
+        returns: decode_returns(bytes),
     }
 }
 
 // The state that bytes hold; bytes past the end count as 0.
+#[tactic(auto, unfolding(crate::specs::StateEncoding::state_from_bytes))]
 pub fn decode_state(bytes: &[u8]) -> State
     ensures { result ≡ state_from_bytes bytes.now }
 {
-    let cpu = decode_cpu(bytes);
-    let status = byte(bytes, 27);
-    let filled = u16_at(bytes, 28);
-    let read = u16_at(bytes, 30);
-    let written = u16_at(bytes, 32);
     State {
-        cpu,
-        status,
-        filled,
-        read,
-        written,
+        cpu: decode_cpu(bytes),
+        status: byte(bytes, 27),
+        filled: u16_at(bytes, 28),
+        read: u16_at(bytes, 30),
+        written: u16_at(bytes, 32),
     }
 }
 

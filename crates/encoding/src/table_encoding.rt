@@ -1,7 +1,7 @@
 // A table as bytes, and back: one loop over the slots each way.
-ghost use Rattle.std.specs.Prelude.{◌≡◌, ◌+◌, ◌≤◌, length};
+ghost use Rattle.std.specs.Prelude.{◌≡◌, ◌≤◌, length};
 ghost use Rattle.slices.specs.Slices.{copied, part_of};
-ghost use Rattle.encoding.specs.TableEncoding.{partition_from_bytes, partition_bytes, partition_length, slot_bytes, slot_from_bytes, slot_length, slots_from_bytes, slots_offset, head_bytes, stored_table, table_from_bytes, table_bytes, table_length};
+ghost use Rattle.encoding.specs.TableEncoding.{partition_from_bytes, partition_bytes, slot_bytes, slot_from_bytes, slot_length, slots_from_bytes, slots_offset, head_bytes, stored_table, table_from_bytes, table_bytes, table_length};
 
 use crate::state_encoding::{STATE_LENGTH, decode_state, encode_state};
 use common::{Layout, Location};
@@ -19,10 +19,10 @@ pub const SLOTS_OFFSET: usize = 12;
 // How many bytes a table has.
 pub const TABLE_LENGTH: usize = SLOTS_OFFSET + Table::SLOTS * SLOT_LENGTH;
 
+#[tactic(auto, unfolding(crate::specs::TableEncoding::partition_from_bytes))]
 fn decode_partition(bytes: &[u8]) -> Partition
     ensures { result ≡ partition_from_bytes bytes.now }
 {
-    let base = Location(u32_at(bytes, 0));
     let layout = Layout {
         window: u16_at(bytes, 4),
         input: u16_at(bytes, 6),
@@ -31,76 +31,68 @@ fn decode_partition(bytes: &[u8]) -> Partition
     };
     let quantum = byte(bytes, 12);
     Partition {
-        base,
+        base: Location(u32_at(bytes, 0)),
         layout,
         quantum,
     }
 }
 
 // The slot whose bytes start at an offset.
+#[tactic(auto, unfolding(crate::specs::TableEncoding::slot_from_bytes))]
 pub fn decode_slot(bytes: &[u8], at: usize) -> Slot
     ensures { result ≡ slot_from_bytes (part_of bytes.now at slot_length) }
 {
     let own = slices::part(bytes, at, SLOT_LENGTH);
-    let partition = decode_partition(own);
-    let state = decode_state(slices::rest(own, PARTITION_LENGTH));
-    Slot { partition, state }
+    Slot {
+        partition: decode_partition(own),
+        state: decode_state(slices::rest(own, PARTITION_LENGTH)),
+    }
 }
 
-fn decode_slots(bytes: &[u8]) -> [Slot; 8]
+fn decode_slots(bytes: &[u8]) -> [Slot; Table::SLOTS]
     ensures { result ≡ slots_from_bytes bytes.now }
 {
-    let first = decode_slot(bytes, SLOTS_OFFSET);
-    let mut slots = [first; 8];
-    let mut k: usize = 0;
-    while k < Table::SLOTS {
-        slots[k] = decode_slot(bytes, SLOTS_OFFSET + SLOT_LENGTH * k);
-        k += 1;
+    // A loop, and no `array::from_fn` as for the registers: the check does not find that proof for slots.
+    let mut slots = [decode_slot(bytes, SLOTS_OFFSET); Table::SLOTS];
+    for (k, slot) in slots.iter_mut().enumerate() {
+        *slot = decode_slot(bytes, SLOTS_OFFSET + SLOT_LENGTH * k);
     }
     slots
 }
 
+#[tactic(auto, unfolding(crate::specs::TableEncoding::table_from_bytes))]
 pub fn decode_table(bytes: &[u8]) -> Table
     ensures { result ≡ table_from_bytes bytes.now }
 {
-    let size = u32_at(bytes, 0);
-    let free = u32_at(bytes, 4);
-    let widest = u32_at(bytes, 8);
-    let slots = decode_slots(bytes);
     Table {
-        size,
-        free,
-        widest,
-        slots,
+        size: u32_at(bytes, 0),
+        free: u32_at(bytes, 4),
+        widest: u32_at(bytes, 8),
+        slots: decode_slots(bytes),
     }
 }
 
-// Writes a partition's bytes at an offset.
-fn put_partition(bytes: &mut [u8], at: usize, partition: Partition)
-    requires { at + partition_length ≤ length bytes.old }
-    ensures { bytes.new ≡ copied bytes.old at (partition_bytes partition) }
+fn encode_partition(partition: Partition) -> [u8; PARTITION_LENGTH]
+    ensures { result ≡ partition_bytes partition }
 {
-    let base = partition.base;
     let layout = partition.layout;
-    put_u32(bytes, at, base.0);
-    put_u16(bytes, at + 4, layout.window);
-    put_u16(bytes, at + 6, layout.input);
-    put_u16(bytes, at + 8, layout.output);
-    put_u16(bytes, at + 10, layout.locked);
-    put_byte(bytes, at + 12, partition.quantum);
+    let mut bytes = [0u8; PARTITION_LENGTH];
+    put_u32(&mut bytes, 0, partition.base.0);
+    put_u16(&mut bytes, 4, layout.window);
+    put_u16(&mut bytes, 6, layout.input);
+    put_u16(&mut bytes, 8, layout.output);
+    put_u16(&mut bytes, 10, layout.locked);
+    put_byte(&mut bytes, 12, partition.quantum);
+    bytes
 }
 
-// Writes a slot's bytes at an offset.
-fn put_slot(bytes: &mut [u8], at: usize, slot: Slot)
-    requires { at + slot_length ≤ length bytes.old }
-    ensures bytes_after { bytes.new ≡ copied bytes.old at (slot_bytes slot) }
-    ensures slot_len { length (slot_bytes slot) ≡ slot_length }
+fn encode_slot(slot: Slot) -> [u8; SLOT_LENGTH]
+    ensures { result ≡ slot_bytes slot }
 {
-    let partition = slot.partition;
-    let state = slot.state;
-    put_partition(bytes, at, partition);
-    let own = encode_state(state);
-    copy(bytes, at + PARTITION_LENGTH, &own);
+    let mut bytes = [0u8; SLOT_LENGTH];
+    copy(&mut bytes, 0, &encode_partition(slot.partition));
+    copy(&mut bytes, PARTITION_LENGTH, &encode_state(slot.state));
+    bytes
 }
 
 // Writes the three numbers before the slots.
@@ -118,15 +110,13 @@ fn put_table(bytes: &mut [u8], table: Table)
     ensures { bytes.new ≡ table_bytes table }
 {
     put_head(bytes, table);
-    let mut k: usize = 0;
-    while k < Table::SLOTS {
-        let s = table.slots[k];
-        put_slot(bytes, SLOTS_OFFSET + SLOT_LENGTH * k, s);
-        k += 1;
+    for (k, slot) in table.slots.iter().enumerate() {
+        copy(bytes, SLOTS_OFFSET + SLOT_LENGTH * k, &encode_slot(*slot));
     }
 }
 
 // Stores a table in a buffer of its length. A buffer of another length is left.
+#[tactic(auto, unfolding(crate::specs::TableEncoding::stored_table, common::specs::ConditionDefinitions::condition_definitions))]
 pub fn store_table(bytes: &mut [u8], table: Table)
     ensures { bytes.new ≡ stored_table bytes.old table }
 {

@@ -13,16 +13,18 @@ use Rattle.common.specs.declared.places.Location.{Location}
 use Rattle.slices.specs.SliceLaws.{copied_front}
 use Rattle.slices.specs.Slices.{copied}
 use Rattle.supervisor.proofs.ChangeLaws.{drain_accepted, load_far}
-use Rattle.queries.specs.Queries.{report, query_refusal, report_of, backlog_outcome, backlog_of, fit_of}
+use Rattle.queries.specs.Queries.{FitAnswer, ReportAnswer, report, query_refusal, report_of, backlog_outcome, backlog_of, fit_of}
 use Rattle.supervisor.specs.Calls.{Call, change, load, drain, outcome_of, refusal, after_call, drained_count, drained_buffer}
 use Rattle.system.specs.System.{Outcome, outcome, System, system, slot_of}
 use Rattle.table.specs.TableConditionLaws.{HoldsPattern}
 use Rattle.table.specs.Table.{new_refusal, new_table}
-use Rattle.queries.specs.declared.fit_query.FitAnswer.{FitAnswer}
-use Rattle.queries.specs.declared.reported.Report.{Report}
 use Rattle.table.specs.declared.table.Table.{Table}
 use Rattle.host.specs.HostCalls.{answer_of, lent_system, table_bytes_after, buffer_outcome, host_new, host_buffers, host_outcome, host_after_call, host_outcome_of, host_drained_buffer, report_bytes, report_length, host_report_refusal, host_report, buffer_outcome_of, host_backlog, answer_of_fit, host_fit}
-use Rattle.encoding.specs.TableEncoding.{table_from_bytes, table_length}
+use Rattle.common.specs.RefusalLaws.{number_some}
+use Rattle.common.specs.Refusals.{refusal_number}
+use Rattle.common.specs.declared.refusals.Refusal.{Refusal}
+use Rattle.encoding.specs.TableRoundTripLaws.{stored_whole}
+use Rattle.encoding.specs.TableEncoding.{stored_table, table_from_bytes, table_length}
 use Rattle.common.specs.ConditionDefinitions.{condition_definitions}
 
 -- ---- calls with a table and a memory
@@ -51,6 +53,15 @@ module _ (c : Call) (table memory : List ℕ) (before : Table) (n : ℕ) (after 
   pub call_stored : (count : ℕ) {given : ℕ} (a : ℕ) (b : List ℕ) → count ≡ given → a ≡ answer_of n count → b ≡ table_bytes_after n after table → host_outcome a b left ≡ host_outcome_of c given (host_buffers table memory)
   unfolding host_outcome_of host_after_call when◌then◌else◌
   call_stored count a b few answer stored = rw (eq-eqb (length table) table_length whole, answer, stored, few, call_refusal, table_after, memory_after_law)
+
+-- the bytes that an accepted and a refused call leave
+pub stored_accepted : (bytes b : List ℕ) (t : Table) → length bytes ≡ table_length → b ≡ stored_table bytes t → b ≡ table_bytes_after 0 t bytes
+unfolding table_bytes_after when◌then◌else◌
+stored_accepted bytes b t whole put = put ∙ stored_whole bytes t whole
+
+pub kept_refused : (refusal : Refusal) (t : Table) (bytes : List ℕ) → bytes ≡ table_bytes_after (refusal_number refusal) t bytes
+unfolding table_bytes_after when◌then◌else◌
+kept_refused refusal t bytes = rw (ne_eqb _ 0 (number_some refusal)) refl
 
 -- ---- a load
 
@@ -94,7 +105,7 @@ buffer_drained table memory k buffer b before whole decoded e = rw (eq-eqb (leng
 
 -- ---- a report
 
-either_refusal : (b : Bool) (n : ℕ) (x y : Report) → (b ≡ true → x.refusal ≡ n) → y.refusal ≡ n → ◌≡◌ {A = ℕ} (when b then x else y).refusal n
+either_refusal : (b : Bool) (n : ℕ) (x y : ReportAnswer) → (b ≡ true → x.refusal ≡ n) → y.refusal ≡ n → ◌≡◌ {A = ℕ} (when b then x else y).refusal n
 unfolding when◌then◌else◌
 either_refusal true n x y h k = h refl
 either_refusal false n x y h k = k
@@ -108,12 +119,12 @@ module _ (table : List ℕ) (k : ℕ) (buffer : List ℕ) where
   unfolding condition_definitions host_report host_report_refusal
   report_other a h e = rw (ne_eqb (length table) table_length h, e)
 
-  module _ (whole : length table ≡ table_length) (before : Table) (r : Report) (decoded : before ≡ table_from_bytes table) (call_made : r ≡ report_of before k) where
+  module _ (whole : length table ≡ table_length) (before : Table) (r : ReportAnswer) (decoded : before ≡ table_from_bytes table) (call_made : r ≡ report_of before k) where
     report_is : r ≡ report_of (table_from_bytes table) k
     report_is = call_made ∙ ap (λ (t : Table). report_of t k) decoded
 
     refusal_is : r.refusal ≡ query_refusal (report k) (table_from_bytes table)
-    refusal_is = ap (λ (x : Report). x.refusal) report_is ∙ report_refusal (table_from_bytes table) k
+    refusal_is = ap (λ (x : ReportAnswer). x.refusal) report_is ∙ report_refusal (table_from_bytes table) k
 
     pub report_refused : (a : ℕ) → (r.refusal ≡ 0 → ⊥) → a ≡ answer_of r.refusal 0 → buffer_outcome a buffer ≡ host_report table k buffer
     unfolding condition_definitions host_report host_report_refusal
@@ -136,7 +147,7 @@ module _ (table : List ℕ) (k : ℕ) (buffer : List ℕ) where
           put
           ∙ copied_front buffer (report_bytes r) (omega arith)
           ∙ ap (λ (i : ℕ). report_bytes r ++ drop i buffer) size
-          ∙ ap (λ (x : Report). report_bytes x ++ drop report_length buffer) report_is
+          ∙ ap (λ (x : ReportAnswer). report_bytes x ++ drop report_length buffer) report_is
           in
           rw (eq-eqb (length table) table_length whole, n, le-ltb (length buffer) report_length h, e, front)
 

@@ -10,10 +10,9 @@ use Rattle.pattern.specs.Reader.{read_of}
 use Rattle.pattern.specs.Parameters.{parameters_bytes, parameters_bytes_length, parameters_from_bytes}
 use Rattle.pattern.specs.ParameterLaws.{parameters_bytes_length_law}
 use Rattle.pattern.specs.Writer.{write_of, written_buffer}
-use Rattle.pattern.specs.declared.reader.ReadResult.{ReadResult}
-use Rattle.pattern.specs.declared.reader.ReadResult.TheVariants.{Accepted, Refused}
+use Rattle.pattern.specs.Reader.{ReadResult, Accepted, Refused}
 use Rattle.pattern.specs.declared.parameters.Parameters.{Parameters}
-use Rattle.pattern.specs.declared.writer.WriteResult.{WriteResult}
+use Rattle.pattern.specs.Writer.{WriteResult}
 use Rattle.slices.specs.SliceLaws.{copied_front}
 use Rattle.slices.specs.Slices.{copied}
 use Rattle.host.specs.HostCalls.{answer_of, buffer_outcome}

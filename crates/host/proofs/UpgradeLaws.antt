@@ -9,7 +9,7 @@ use Rattle.earlier.specs.EarlierTable.{upgrade_of}
 use Rattle.encoding.specs.TableEncoding.{table_length, table_bytes}
 use Rattle.host.specs.HostCalls.{buffer_outcome, answer_of}
 use Rattle.host.specs.Upgrading.{host_upgrade}
-use Rattle.table.specs.declared.table.Answer.{Answer}
+use Rattle.table.specs.Table.{Answer}
 
 module _ (old table : List ℕ) {r : Answer} (e : r ≡ upgrade_of old) where
   pub upgrade_refused : {a : ℕ} → (r.refusal ≡ 0 → ⊥) → a ≡ answer_of r.refusal 0 → buffer_outcome a table ≡ host_upgrade old table

@@ -1,14 +1,13 @@
 -- Definitions that must be believed: what a host's calls answer, and what they leave in the buffers that the host lends. A table is its
 -- bytes (TableEncoding); what a call does to it is crate supervisor's `refusal` and `after_call`.
-use Rattle.std.specs.Prelude.{not, List, [], ◌∷◌, ◌++◌, ℕ, ◌+◌, ◌*◌, eqb, ltb, length, drop}
+use Rattle.std.specs.Prelude.{not, List, [], ◌∷◌, ◌++◌, ℕ, ◌+◌, ◌*◌, eqb, ltb, length, drop, Result, Ok, Err}
 use Rattle.common.specs.Choice.{when◌then◌else◌}
 use Rattle.common.specs.Refusals.{◌gives◌, refusal_by}
-use Rattle.queries.specs.Queries.{report, query_refusal, report_of, BacklogOutcome, backlog_of, fit_of}
+use Rattle.common.specs.declared.refusals.Refusal.{Refusal}
+use Rattle.queries.specs.Queries.{report, query_refusal, ReportAnswer, report_of, BacklogOutcome, backlog_of, FitAnswer, fit_of}
 use Rattle.supervisor.specs.Calls.{Call, refusal, after_call, drained_buffer}
 use Rattle.system.specs.System.{System, system}
 use Rattle.table.specs.Table.{new_refusal, new_table}
-use Rattle.queries.specs.declared.fit_query.FitAnswer.{FitAnswer}
-use Rattle.queries.specs.declared.reported.Report.{Report}
 use Rattle.table.specs.declared.table.Table.{Table}
 use Rattle.slices.specs.Numbers.{u16_bytes}
 use Rattle.slices.specs.Slices.{concat}
@@ -17,6 +16,11 @@ use Rattle.encoding.specs.TableEncoding.{table_from_bytes, table_bytes, table_le
 -- an answer: the refusal, 0 for none, and how many bytes were handed over, 0 where none are
 abbrev pub answer_of : ℕ → ℕ → ℕ
 answer_of refusal count = refusal * 65536 + count
+
+-- the count in an answer of the code, whose refusal is `refusal_in` it
+abbrev pub count_given : Result ℕ Refusal → ℕ
+count_given (Ok count) = count
+count_given (Err refusal) = 0
 
 -- the table and the memory that a host lends
 abbrev pub lent_system : List ℕ → List ℕ → System
@@ -88,7 +92,7 @@ host_drained_buffer table memory k buffer = when eqb (length table) table_length
 -- ---- a report
 
 -- status, counter, seven registers, PSU with Sense, PSL
-unfoldable pub report_bytes : Report → List ℕ
+unfoldable pub report_bytes : ReportAnswer → List ℕ
 report_bytes r = concat ((r.status ∷ []) ∷ u16_bytes r.counter ∷ r.registers ∷ (r.psu ∷ r.psl ∷ []) ∷ [])
 
 -- how many bytes these are

@@ -12,10 +12,9 @@ use Rattle.pattern.specs.Parameters.{form_of}
 use Rattle.pattern.specs.ParameterLaws.{parameters_most, range_fact}
 use Rattle.pattern.specs.Writer.{smallest_length, file_of, write_of}
 use Rattle.pattern.specs.WriterLaws.{accepted_written, file_length}
-use Rattle.pattern.specs.declared.reader.ReadResult.{ReadResult}
-use Rattle.pattern.specs.declared.reader.ReadResult.TheVariants.{Accepted, Refused}
+use Rattle.pattern.specs.Reader.{ReadResult, Accepted, Refused}
 use Rattle.pattern.specs.declared.parameters.Parameters.{Parameters}
-use Rattle.pattern.specs.declared.writer.WriteResult.TheVariants.{Written}
+use Rattle.pattern.specs.Writer.{Written}
 use Rattle.slices.specs.Slices.{part_of}
 use Rattle.host.specs.PatternFiles.{stretch_of, code_stretch, input_stretch}
 

@@ -5,10 +5,9 @@ use Rattle.common.specs.Choice.{when◌then◌else◌}
 use Rattle.pattern.specs.Reader.{read_of, if_accepted, code_body_of, input_body_of, code_offset, input_offset}
 use Rattle.pattern.specs.Parameters.{parameters_bytes, parameters_bytes_length, parameters_from_bytes}
 use Rattle.pattern.specs.Writer.{write_of, written_buffer}
-use Rattle.pattern.specs.declared.reader.ReadResult.{ReadResult}
-use Rattle.pattern.specs.declared.reader.ReadResult.TheVariants.{Accepted, Refused}
-use Rattle.pattern.specs.declared.writer.WriteResult.{WriteResult}
-use Rattle.pattern.specs.declared.writer.WriteResult.TheVariants as written
+use Rattle.pattern.specs.Reader.{ReadResult, Accepted, Refused}
+use Rattle.pattern.specs.Writer.{WriteResult}
+use Rattle.pattern.specs.Writer.{Written, WriteRefused}
 use Rattle.host.specs.HostCalls.{answer_of, BufferOutcome, buffer_outcome}
 
 -- ---- reading
@@ -37,8 +36,8 @@ input_stretch file = if_accepted (read_of file) 0 (stretch_of (input_offset file
 
 -- the count is the file's length
 abbrev pub written_answer : WriteResult → ℕ
-written_answer (written.Written n) = answer_of 0 n
-written_answer (written.Refused n) = answer_of n 0
+written_answer (Written n) = answer_of 0 n
+written_answer (WriteRefused n) = answer_of n 0
 
 -- the parameters come as these bytes; another length is out of range
 unfoldable pub host_write : List ℕ → List ℕ → List ℕ → List ℕ → BufferOutcome

@@ -15,11 +15,11 @@ use Rattle.host.specs.Upgrading.{host_upgrade, Upgraded}
 use Rattle.slices.specs.Slices.{AllBytes}
 use Rattle.system.specs.System.{machine_in}
 use Rattle.table.specs.FreeBytes.{counted}
-use Rattle.table.specs.Recounting.{answer}
+use Rattle.table.specs.Table.{answer}
 use Rattle.table.specs.Sound.{table_sound}
 use Rattle.table.specs.SoundLaws.{table_fact, counted_same, counted_test}
 use Rattle.table.specs.Table.{slot_at}
-use Rattle.table.specs.declared.table.Answer.{Answer}
+use Rattle.table.specs.Table.{Answer}
 use Rattle.table.specs.declared.table.Table.{Table}
 
 -- ---- an accepted upgrade

@@ -1,10 +1,12 @@
 // Calls on pattern files that a host lends.
-ghost use Rattle.std.specs.Prelude.{◌≡◌};
-ghost use Rattle.pattern.specs.Reader.{read_of};
+ghost use Rattle.std.specs.Prelude.{◌≡◌, ◌<◌};
+ghost use Rattle.pattern.specs.Reader.{Accepted, if_accepted, read_of};
+ghost use Rattle.pattern.specs.declared.parameters.Parameters.{Parameters};
 ghost use Rattle.host.specs.HostCalls.{buffer_outcome};
 ghost use Rattle.host.specs.PatternFiles.{code_stretch, host_read, host_write, input_stretch, stretch_of};
 
 use crate::host_calls::answer;
+use common::Refusal;
 use pattern::Parameters;
 
 // The file's parameters to the buffer's front.
@@ -12,22 +14,26 @@ use pattern::Parameters;
 pub extern "C" fn pf_read(file: &[u8], parameters: &mut [u8]) -> u32
     ensures { buffer_outcome result parameters.new ≡ host_read (read_of file.now) parameters.old }
 {
-    let read = pattern::read(file);
-    let pattern::ReadResult::Accepted(accepted) = read else {
-        return answer(read.refusal(), 0);
+    let accepted = match pattern::read(file) {
+        Ok(accepted) => accepted,
+        Err(refusal) => return answer(Err(refusal)),
     };
     if parameters.len() < Parameters::LENGTH {
-        return answer(16, 0);
+        return answer(Err(Refusal::Short));
     }
-    let bytes = pattern::encode_parameters(accepted);
-    slices::copy(parameters, 0, &bytes);
-    answer(0, 0)
+    slices::copy(parameters, 0, &pattern::encode_parameters(accepted));
+    answer(Ok(0))
 }
 
-fn stretch(offset: u16, n: u16) -> u32
-    ensures { result ≡ stretch_of offset n }
+// Where a body lies in the file, if it is accepted: the offset and the length in one number.
+fn stretch(file: &[u8], offset: usize, n: usize) -> u32
+    requires { (p : Parameters) → read_of file.now ≡ Accepted p → (offset < 65536) × (n < 65536) }
+    ensures { result ≡ if_accepted (read_of file.now) 0 (stretch_of offset n) }
 {
-    offset as u32 * 65536 + n as u32
+    match pattern::read(file) {
+        Ok(_) => offset as u32 * 65536 + n as u32,
+        Err(_) => 0,
+    }
 }
 
 // Where the body of `PC` lies in the file.
@@ -35,12 +41,11 @@ fn stretch(offset: u16, n: u16) -> u32
 pub extern "C" fn pf_code(file: &[u8]) -> u32
     ensures { result ≡ code_stretch file.now }
 {
-    let read = pattern::read(file);
-    let pattern::ReadResult::Accepted(_) = read else {
-        return 0;
-    };
-    let code = pattern::code_body(file);
-    stretch(pattern::code_offset(file) as u16, code.len() as u16)
+    stretch(
+        file,
+        pattern::code_offset(file),
+        pattern::code_body(file).len(),
+    )
 }
 
 // Where the body of `PI` lies in the file.
@@ -48,25 +53,24 @@ pub extern "C" fn pf_code(file: &[u8]) -> u32
 pub extern "C" fn pf_input(file: &[u8]) -> u32
     ensures { result ≡ input_stretch file.now }
 {
-    let read = pattern::read(file);
-    let pattern::ReadResult::Accepted(_) = read else {
-        return 0;
-    };
-    let input = pattern::input_body(file);
-    stretch(pattern::input_offset(file) as u16, input.len() as u16)
+    stretch(
+        file,
+        pattern::input_offset(file),
+        pattern::input_body(file).len(),
+    )
 }
 
 // Writes a file to the buffer's front. The count is its length.
+#[tactic(auto, using(crate::proofs::HostFileLaws::write_other, crate::proofs::HostFileLaws::write_made))]
 #[unsafe(no_mangle)]
 pub extern "C" fn pf_write(parameters: &[u8], image: &[u8], input: &[u8], buffer: &mut [u8]) -> u32
     ensures { buffer_outcome result buffer.new ≡ host_write parameters.now image.now input.now buffer.old }
 {
     if parameters.len() != Parameters::LENGTH {
-        return answer(9, 0);
+        return answer(Err(Refusal::Values));
     }
-    let written = pattern::write(pattern::decode_parameters(parameters), image, input, buffer);
-    match written {
-        pattern::WriteResult::Written(n) => answer(0, n as u16),
-        pattern::WriteResult::Refused(refusal) => answer(refusal, 0),
+    match pattern::write(pattern::decode_parameters(parameters), image, input, buffer) {
+        Ok(n) => answer(Ok(n as u16)),
+        Err(refusal) => answer(Err(refusal)),
     }
 }

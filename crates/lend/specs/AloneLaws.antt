@@ -1,8 +1,9 @@
 -- Laws that the checker has shown: a slot that is the only one of a table.
-use Rattle.std.specs.Prelude.{Bool, ◌&&◌, List, ◌++◌, ◌≢◌, ◌≡◌, ℕ, eqb, leb, length, drop}
+use Rattle.std.specs.Prelude.{Bool, ◌&&◌, List, ◌++◌, ◌≢◌, ◌≡◌, ℕ, eqb, leb, length, drop, Result, Ok, Err, IsErrAnd, MatchResult}
 use Rattle.std.proofs.Math.Bool.{true, false}
 use Rattle.std.proofs.Math.Path.{refl}
-use Rattle.std.proofs.Common.{sym, ap, ◌∙◌, arith, eq-eqb, eqb-true, le-leb}
+use Rattle.std.proofs.lemmas.Result.{err_from_is_err_and}
+use Rattle.std.proofs.Common.{ne_eqb, sym, ap, ◌∙◌, arith, eq-eqb, eqb-true, le-leb}
 use Rattle.common.specs.Choice.{when◌then◌else◌}
 use Rattle.common.specs.TestLaws.{and_true, or_left, or_right}
 use Rattle.common.specs.Ranges.{is_one_to}
@@ -11,14 +12,19 @@ use Rattle.supervisor.proofs.ChangeLaws.{empty_sound}
 use Rattle.system.specs.System.{Outcome, outcome, System, system, patched}
 use Rattle.supervisor.specs.Calls.{change, drain, refusal, outcome_of, drained_count, drained_buffer}
 use Rattle.table.specs.Table.{empty_slot, empty_table, new_refusal, new_table, partition_end, slot_at, with_slot, slot_with_state}
-use Rattle.supervisor.specs.Draining.{drained_state, drain_patch, written_bytes}
+use Rattle.supervisor.specs.Draining.{count_in, drain_outcome, drained_state, drain_patch, written_bytes}
 use Rattle.table.specs.FreeBytes.{counted}
 use Rattle.table.specs.Sound.{slot_sound, are_apart, is_clear_of_others, slots_sound, table_sound}
 use Rattle.table.specs.SoundLaws.{counted_test}
 use Rattle.table.specs.declared.table.Partition.{Partition}
 use Rattle.table.specs.declared.table.Slot.{Slot}
 use Rattle.table.specs.declared.table.Table.{Table}
-use Rattle.lend.specs.Lent.{drain_lent_outcome, drain_slot_refusal, drain_slot_of}
+use Rattle.common.specs.RefusalLaws.{number_some}
+use Rattle.common.specs.Refusals.{refusal_number}
+use Rattle.common.specs.declared.refusals.Refusal.{Refusal}
+use Rattle.supervisor.specs.declared.draining.Drained.{Drained}
+use Rattle.table.specs.declared.table.RefusedCall.{RefusedCall}
+use Rattle.lend.specs.Lent.{drained_alone_outcome, drain_lent_outcome, drain_slot_refusal, drain_slot_of}
 use Rattle.supervisor.specs.CallDefinitions.{refusal_definitions, drain_definitions}
 use Rattle.common.specs.ConditionDefinitions.{condition_definitions}
 
@@ -120,3 +126,34 @@ pub by_draining :
 by_draining s memory buffer t u e f r n t' b h i j =
     let alone : u ≡ alone_table (length memory) s = f ∙ ap (λ (v : Table). counted (with_slot v 0 s)) e in
     rw (ap (λ (o : Outcome). o.refusal) h, ap (λ (o : Outcome). o.after.table) h, i, j, alone) (alone_drained s memory buffer)
+
+-- and for whoever knows that it was refused: then the slot is the given one
+by_refusing :
+    (s : Slot) (memory buffer : List ℕ) (t u : Table) → t ≡ empty_table (length memory) → u ≡ counted (with_slot t 0 s)
+    → (r n : ℕ) (t' : Table) (b : List ℕ)
+    → outcome r t' memory ≡ outcome_of (change 0 (drain (length buffer))) (system u memory)
+    → n ≡ drained_count (system u memory) 0 (length buffer)
+    → b ≡ drained_buffer (system u memory) 0 buffer
+    → (r ≡ 0 → ⊥)
+    → drain_lent_outcome (record { refusal = r; count = n }) s b ≡ drain_slot_of s memory buffer
+unfolding drain_definitions with_slot slot_at when◌then◌else◌
+by_refusing s memory buffer t u e f r n t' b h i j some =
+    let why : refusal (change 0 (drain (length buffer))) (system u memory) ≡ r = sym (ap (λ (o : Outcome). o.refusal) h) in
+    let kept : t' ≡ u = ap (λ (o : Outcome). o.after.table) h ∙ rw (why, ne_eqb r 0 some) in
+    let same : slot_at t' 0 ≡ s = ap (λ (z : Table). slot_at z 0) kept ∙ rw (f, e) in
+    ap (λ (z : Slot). drain_lent_outcome (record { refusal = r; count = n }) z b) (sym same) ∙ by_draining s memory buffer t u e f r n t' b h i j
+
+-- so for whoever knows the answer of the call, and what the code makes of it by `map_err`
+pub by_answer :
+    (s : Slot) (memory buffer : List ℕ) (t u : Table) → t ≡ empty_table (length memory) → u ≡ counted (with_slot t 0 s)
+    → (d : Result Drained RefusedCall) (mapped : Result Drained Refusal) (b : List ℕ) {P : RefusedCall → Refusal → Type 0}
+    → drain_outcome d memory ≡ outcome_of (change 0 (drain (length buffer))) (system u memory)
+    → count_in d ≡ drained_count (system u memory) 0 (length buffer)
+    → b ≡ drained_buffer (system u memory) 0 buffer
+    → MatchResult d (λ a. mapped ≡ Ok a) (λ r. IsErrAnd mapped (P r))
+    → ((r : RefusedCall) (q : Refusal) → P r q → q ≡ r.refusal)
+    → drained_alone_outcome mapped s b ≡ drain_slot_of s memory buffer
+by_answer s memory buffer t u e f (Ok a) mapped b h i j m refused = rw m (by_draining s memory buffer t u e f 0 a.count a.table b h i j)
+by_answer s memory buffer t u e f (Err r) mapped b h i j m refused =
+    let (q, is, p) = err_from_is_err_and mapped m in
+    rw (is, refused r q p) (by_refusing s memory buffer t u e f (refusal_number r.refusal) 0 r.table b h i j (number_some r.refusal))

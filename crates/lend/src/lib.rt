@@ -3,4 +3,4 @@
 
 mod lent;
 
-pub use lent::{LentAnswer, SlotAnswer, drain_lent, drain_slot};
+pub use lent::{SlotAnswer, drain_lent, drain_slot};

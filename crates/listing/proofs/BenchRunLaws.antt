@@ -7,18 +7,20 @@ use native.Mathlib.Omega.{arith}
 use borrow.Author.Tests.{lt-ltb, le-ltb, ne_eqb, eq-eqb}
 use lib.ListN.{length, take, drop}
 use Rattle.common.specs.Choice.{when◌then◌else◌}
-use Rattle.queries.specs.Queries.{report_of}
-use Rattle.supervisor.specs.Calls.{refusal, after_call, outcome_of, drained_count, drained_buffer}
+use Rattle.queries.specs.Queries.{ReportAnswer, refused_report, report_of}
+use Rattle.supervisor.specs.Calls.{change, drain, refusal, after_call, outcome_of, drained_count, drained_buffer}
+use Rattle.common.specs.RefusalLaws.{number_some}
+use Rattle.common.specs.Refusals.{refusal_number}
+use Rattle.common.specs.declared.refusals.Refusal.{Refusal}
 use Rattle.system.specs.System.{Outcome, outcome, System, system, slot_of}
 use Rattle.table.specs.Table.{new_table, is_empty}
 use Rattle.supervisor.specs.Draining.{written_bytes}
 use Rattle.system.specs.ConditionLaws.{SoundSystem, ReadySlot, loaded_ready}
-use Rattle.queries.specs.declared.reported.Report.{Report}
 use Rattle.table.specs.declared.table.Table.{Table}
 use Rattle.listing.specs.Text.{refused_line, lines_of}
 use Rattle.listing.specs.BenchListing.{new_system, load_call, after_bench_rounds, file_refusal, lines_after, text_of, memory_after, listing_outcome, listing_of}
 use Rattle.listing.specs.UntilStopped.{until_stopped}
-use Rattle.listing.specs.ListingLaws.{slot_loaded, after_bench_rounds_ready, status_low, output_few, output_length, drained_front}
+use Rattle.listing.specs.ListingLaws.{reported, output_drain_accepted, slot_loaded, after_bench_rounds_ready, status_low, output_few, output_length, drained_front}
 use Rattle.common.specs.ConditionDefinitions.{condition_definitions}
 
 -- ---- report and output
@@ -27,8 +29,16 @@ module _ (x : System) (good : SoundSystem x) (loaded : is_empty (slot_of x 0) �
   bench_ready : ReadySlot x 0
   bench_ready = loaded_ready x 0 good (omega arith) loaded
 
-  pub status_digit : (r : Report) → r ≡ report_of x.table 0 → r.status < 10
+  pub status_digit : (r : ReportAnswer) → r ≡ report_of x.table 0 → r.status < 10
   status_digit r e = rw e (status_low x bench_ready)
+
+  -- neither call is refused
+  pub report_not_refused : (refusal : Refusal) → refused_report (refusal_number refusal) ≡ report_of x.table 0 → ⊥
+  report_not_refused refusal e = number_some refusal (ap (λ (r : ReportAnswer). r.refusal) e ∙ reported x bench_ready)
+
+  pub drain_not_refused : (refusal : Refusal) (t : Table) (room : ℕ) → 4096 ≤ room → outcome (refusal_number refusal) t x.memory ≡ outcome_of (change 0 (drain room)) x → ⊥
+  unfolding outcome_of
+  drain_not_refused refusal t room h e = number_some refusal (ap (λ (o : Outcome). o.refusal) e ∙ output_drain_accepted x bench_ready room h)
 
   pub output_drained : (buffer after output : List ℕ) (count : ℕ) → length buffer ≡ 4096 → count ≡ drained_count x 0 (length buffer)
       → after ≡ drained_buffer x 0 buffer → output ≡ take count after → output ≡ written_bytes (slot_of x 0) x.memory
@@ -40,7 +50,7 @@ module _ (x : System) (good : SoundSystem x) (loaded : is_empty (slot_of x 0) �
       let few = output_few x bench_ready in
       omega arith
 
-  pub lines_after_law : (r : Report) (output t₀ t : List ℕ) (n : ℕ) → r ≡ report_of x.table 0 → output ≡ written_bytes (slot_of x 0) x.memory
+  pub lines_after_law : (r : ReportAnswer) (output t₀ t : List ℕ) (n : ℕ) → r ≡ report_of x.table 0 → output ≡ written_bytes (slot_of x 0) x.memory
       → (n ≡ length (lines_of r output)) × (t ≡ lines_of r output ++ drop n t₀) → (n ≡ length (lines_after x)) × (t ≡ lines_after x ++ drop n t₀)
   unfolding lines_after
   lines_after_law r output t₀ t n e f h = rw (← e, ← f) h

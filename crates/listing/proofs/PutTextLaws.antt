@@ -5,10 +5,10 @@ use Prim.Native.Nat.{ℕ, ◌+◌, ◌*◌, ◌≤◌, ◌<◌}
 use native.Mathlib.Omega.{arith}
 use native.Mathlib.Nat.{add-zero}
 use lib.ListN.{length, get_or, take, drop, length-append, take-append-drop}
-use lib.Seq.{take_all, length-take-le}
+use lib.Seq.{length-take-le}
 use Rattle.slices.specs.SliceLaws.{copied_front, copied_next, copied_whole}
 use Rattle.slices.specs.Slices.{copied}
-use Rattle.queries.specs.declared.reported.Report.{Report}
+use Rattle.queries.specs.Queries.{ReportAnswer}
 use Rattle.listing.specs.Ascii.{ascii}
 use Rattle.listing.specs.Text.{hex_byte, hex_u16, decimal_digits, field, fields, refused_line, report_line, output_line, lines_of}
 use Rattle.listing.specs.TextLaws.{field_length, fields_length, fields_append, fields_more, one_digit, decimal_digits_short}
@@ -28,9 +28,6 @@ module _ (d : List ℕ) (at : ℕ) (bytes : List ℕ) (room : at + 3 * length by
       let n : length (field (get_or bytes i 0)) ≡ 3 = field_length (get_or bytes i 0) in
       rw (fields_more bytes i h)
       (copied_next d t u at (at + 3 * i) (fields (take i bytes)) (field (get_or bytes i 0)) e f (omega arith) (omega arith))
-
-  pub fields_put_all : (i : ℕ) (t : List ℕ) → i ≤ length bytes → length bytes ≤ i → t ≡ copied d at (fields (take i bytes)) → t ≡ copied d at (fields bytes)
-  fields_put_all i t h g e = e ∙ ap (λ (l : List ℕ). copied d at (fields l)) (take_all i bytes g)
 
 -- ---- lines
 
@@ -63,7 +60,7 @@ fields_put psu psl registers t₀ t₁ t₂ seven room e₁ e₂ =
 six_parts : (a b c d e f : List ℕ) → a ++ b ++ (c ++ d) ++ e ++ f ≡ a ++ b ++ c ++ (d ++ e ++ f)
 six_parts a b c d e f = simp append_assoc
 
-module _ (r : Report) (o : List ℕ) (low : r.status < 10) (seven : length r.registers ≡ 7) where
+module _ (r : ReportAnswer) (o : List ℕ) (low : r.status < 10) (seven : length r.registers ≡ 7) where
   abbrev head_text : List ℕ
   head_text = decimal_digits r.status ++ ascii " " ++ hex_u16 r.counter
 

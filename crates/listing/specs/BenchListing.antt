@@ -1,6 +1,7 @@
 -- Definitions that must be believed: the bench run, from a pattern file to its text (document 01, "The bench run").
-use Rattle.std.specs.Prelude.{not, List, [], ◌∷◌, ◌++◌, ℕ, ◌+◌, ◌*◌, eqb, ltb, length, drop}
-use Rattle.common.specs.Refusals.{◌gives◌, unless, refusal_by}
+use Rattle.std.specs.Prelude.{not, List, [], ◌∷◌, ◌++◌, ℕ, ◌+◌, ◌*◌, eqb, ltb, length, drop, Result, Ok, Err}
+use Rattle.common.specs.Refusals.{◌gives◌, unless, refusal_by, refusal_number}
+use Rattle.common.specs.declared.refusals.Refusal.{Refusal}
 use Rattle.common.specs.Choice.{when◌then◌else◌}
 use Rattle.queries.specs.Queries.{report_of}
 use Rattle.supervisor.specs.Calls.{Call, change, load, refusal, after_call}
@@ -56,6 +57,11 @@ pub record ListingOutcome : Type 0 where
 
 abbrev pub listing_outcome : ℕ → ℕ → List ℕ → List ℕ → ListingOutcome
 listing_outcome n size memory text = record { refusal = n; size = size; memory = memory; text = text }
+
+-- and of what the code answers, the length of the text: a refused listing has none
+abbrev pub listing_outcome_in : Result ℕ Refusal → List ℕ → List ℕ → ListingOutcome
+listing_outcome_in (Ok size) memory text = listing_outcome 0 size memory text
+listing_outcome_in (Err refusal) memory text = listing_outcome (refusal_number refusal) 0 memory text
 
 -- a listing that has no room for the longest text, or another memory, is refused and changes nothing; else the text stands at the
 -- front of the buffer and the rest is left

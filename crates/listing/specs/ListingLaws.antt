@@ -100,6 +100,10 @@ module _ (x : System) (r : ReadySlot x 0) where
   unfolding refusal_definitions
   report_accepted = simp (table_test x.table r.system.table, slot_loaded x r)
 
+  pub reported : (report_of x.table 0).refusal ≡ 0
+  unfolding report_of when◌then◌else◌
+  reported = rw report_accepted
+
   -- the status has one digit
   pub status_low : (report_of x.table 0).status < 10
   unfolding report_of when◌then◌else◌
@@ -115,7 +119,7 @@ module _ (x : System) (r : ReadySlot x 0) where
       let few = r.holds.loaded.state.written in
       part_length x.memory (output_location (slot_of x 0).partition).0 (slot_of x 0).state.written (omega arith)
 
-  output_drain_accepted : (room : ℕ) → 4096 ≤ room → refusal (change 0 (drain room)) x ≡ 0
+  pub output_drain_accepted : (room : ℕ) → 4096 ≤ room → refusal (change 0 (drain room)) x ≡ 0
   unfolding refusal_definitions
   output_drain_accepted room h =
       let few : (slot_of x 0).state.written ≤ room = omega (arith, output_few) in

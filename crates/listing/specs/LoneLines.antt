@@ -4,7 +4,7 @@ use Rattle.common.specs.Choice.{when◌then◌else◌}
 use Rattle.common.specs.Repetition.{times}
 use Rattle.cpu.specs.Machine.{Machine, machine_step}
 use Rattle.queries.specs.Reporting.{reported_psu}
-use Rattle.queries.specs.declared.reported.Report.{Report}
+use Rattle.queries.specs.Queries.{ReportAnswer}
 use Rattle.listing.specs.Text.{lines_of}
 
 -- quanta of q steps until the status is not 1 or n are made
@@ -12,7 +12,7 @@ unfoldable pub lone_until : ℕ → ℕ → Machine → Machine
 lone_until zero q m = m
 lone_until (suc n) q m = when eqb m.state.status 1 then lone_until n q (times q machine_step m) else m
 
-unfoldable pub lone_report : Machine → Report
+unfoldable pub lone_report : Machine → ReportAnswer
 lone_report m =
     record {
       refusal = 0;

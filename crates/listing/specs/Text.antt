@@ -3,7 +3,7 @@
 use Rattle.common.specs.Choice.{when◌then◌else◌}
 use Rattle.std.specs.Prelude.{List, [], ◌∷◌, ◌++◌, ℕ, ◌+◌, ◌-◌, ◌/◌, ◌%◌, ltb}
 use Prim.Native.Char.{code}
-use Rattle.queries.specs.declared.reported.Report.{Report}
+use Rattle.queries.specs.Queries.{ReportAnswer}
 use Rattle.listing.specs.Ascii.{ascii}
 
 -- a digit of a number below 16; hex letters are capitals
@@ -36,7 +36,7 @@ unfoldable pub refused_line : ℕ → List ℕ
 refused_line n = ascii "refused " ++ decimal_digits n ++ ascii "\n"
 
 -- status number, counter, PSU, PSL, R0, R1 to R3 of bank 0, R1 to R3 of bank 1
-unfoldable pub report_line : Report → List ℕ
+unfoldable pub report_line : ReportAnswer → List ℕ
 report_line r = decimal_digits r.status ++ ascii " " ++ hex_u16 r.counter ++ fields (r.psu ∷ r.psl ∷ r.registers) ++ ascii "\n"
 
 -- `out` and each byte; `out` alone if there is none
@@ -44,5 +44,5 @@ unfoldable pub output_line : List ℕ → List ℕ
 output_line bytes = ascii "out" ++ fields bytes ++ ascii "\n"
 
 -- both lines
-unfoldable pub lines_of : Report → List ℕ → List ℕ
+unfoldable pub lines_of : ReportAnswer → List ℕ → List ℕ
 lines_of r bytes = report_line r ++ output_line bytes

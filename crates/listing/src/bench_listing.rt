@@ -1,30 +1,21 @@
 // The bench run: a pattern file in, its text out.
-ghost use Rattle.std.specs.Prelude.{false, ◌++◌, ◌≡◌, ◌≤◌, length, drop};
+ghost use Rattle.std.specs.Prelude.{false, ◌++◌, ◌≡◌, ◌≤◌, length, drop, IfOk};
 ghost use Rattle.system.specs.System.{system, slot_of};
 ghost use Rattle.system.specs.ConditionLaws.{SoundSystem};
 ghost use Rattle.table.specs.Table.{is_empty};
-ghost use Rattle.listing.specs.BenchListing.{longest_text, listing_outcome, listing_of, lines_after, text_of, memory_after};
+ghost use Rattle.listing.specs.BenchListing.{longest_text, listing_outcome_in, listing_of, lines_after, text_of, memory_after};
 
 use crate::text::{put_lines, put_refused};
 use crate::until_stopped::run_until_stopped;
-use common::Location;
+use common::{Location, Refusal};
 use table::Table;
 
-// The refusal, 0 for none, and the length of the text.
-#[derive(Clone, Copy)]
-pub struct ListingResult {
-    pub refusal: u8,
-    pub length: usize,
-}
+// The length of the longest text, which is that of two lines with 4,096 bytes of output; of the memory; and of the longest file.
+pub const MAX_TEXT: usize = 12326;
 
-impl ListingResult {
-    // The length of the longest text, which is that of two lines with 4,096 bytes of output; of the memory; and of the longest file.
-    pub const MAX_TEXT: usize = 12326;
+pub const MEMORY_LENGTH: usize = 40960;
 
-    pub const MEMORY_LENGTH: usize = 40960;
-
-    pub const MAX_FILE: usize = 36897;
-}
+pub const MAX_FILE: usize = 36897;
 
 // The two lines of a system whose slot 0 is loaded: reported on first, and then drained.
 fn put_report_and_output(table: Table, memory: &[u8], text: &mut [u8]) -> usize
@@ -35,9 +26,13 @@ fn put_report_and_output(table: Table, memory: &[u8], text: &mut [u8]) -> usize
     ensures text_after { text.new ≡ lines_after (system table memory.now) ++ drop result text.old }
     ensures upper_bound { result ≤ longest_text }
 {
-    let report = queries::report(table, 0);
+    let Ok(report) = queries::report(table, 0) else {
+        unreachable!()
+    };
     let mut output = [0u8; 4096];
-    let drained = supervisor::drain(table, memory, 0, &mut output);
+    let Ok(drained) = supervisor::drain(table, memory, 0, &mut output) else {
+        unreachable!()
+    };
     put_lines(report, slices::front(&output, drained.count), text)
 }
 
@@ -50,39 +45,32 @@ fn put_text(file: &[u8], memory: &mut [u8], text: &mut [u8]) -> usize
     ensures text_after { text.new ≡ text_of file.now memory.old ++ drop result text.old }
     ensures upper_bound { result ≤ longest_text }
 {
-    if ListingResult::MAX_FILE < file.len() {
-        return put_refused(6, text);
+    if MAX_FILE < file.len() {
+        return put_refused(Refusal::Frame, text);
     }
-    let new = Table::new(ListingResult::MEMORY_LENGTH);
-    let empty = new.table;
-    let answer = supervisor::load(empty, memory, 0, Location(0), file);
-    if answer.refusal != 0 {
-        return put_refused(answer.refusal, text);
-    }
-    let table = answer.table;
+    let Ok(empty) = Table::new(MEMORY_LENGTH) else {
+        unreachable!()
+    };
+    let table = match supervisor::load(empty, memory, 0, Location(0), file) {
+        Ok(table) => table,
+        Err(refused) => return put_refused(refused.refusal, text),
+    };
     let end = run_until_stopped(table, memory);
-    put_report_and_output(end, &memory[..], text)
+    put_report_and_output(end, memory, text)
 }
 
 // The bench run. Whether there is room is a test of the buffer's length alone, made before anything is touched, so that a refusal
 // changes neither the memory nor the buffer. The equation gives the length; that it is never above the longest is said beside it for
 // callers that keep it in 16 bits.
-pub fn listing(file: &[u8], memory: &mut [u8], text: &mut [u8]) -> ListingResult
-    ensures text_after { listing_outcome result.refusal result.length memory.new text.new ≡ listing_of file.now memory.old text.old }
-    ensures length_le_longest_text { result.length ≤ longest_text }
+pub fn listing(file: &[u8], memory: &mut [u8], text: &mut [u8]) -> Result<usize, Refusal>
+    ensures text_after { listing_outcome_in result memory.new text.new ≡ listing_of file.now memory.old text.old }
+    ensures length_le_longest_text { IfOk result (λ length. length ≤ longest_text) }
 {
-    if text.len() < ListingResult::MAX_TEXT {
-        return ListingResult {
-            refusal: 16,
-            length: 0,
-        };
+    if text.len() < MAX_TEXT {
+        return Err(Refusal::Short);
     }
-    if memory.len() != ListingResult::MEMORY_LENGTH {
-        return ListingResult {
-            refusal: 2,
-            length: 0,
-        };
+    if memory.len() != MEMORY_LENGTH {
+        return Err(Refusal::OtherLength);
     }
-    let length = put_text(file, memory, text);
-    ListingResult { refusal: 0, length }
+    Ok(put_text(file, memory, text))
 }

@@ -5,4 +5,4 @@ mod bench_listing;
 mod text;
 mod until_stopped;
 
-pub use bench_listing::{ListingResult, listing};
+pub use bench_listing::{MAX_FILE, MAX_TEXT, MEMORY_LENGTH, listing};

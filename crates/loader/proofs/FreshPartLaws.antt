@@ -1,39 +1,34 @@
--- Three stretches, each behind the one before, are one; and what a file puts into memory, by the reader's answer.
-use Prim.Native.Nat.{ℕ, ◌+◌, ◌≤◌, ◌<◌}
-use mathlib.Core.List.{List, ◌++◌}
+-- What a file puts into memory, by the reader's answer.
+use Prim.Native.Nat.{ℕ, ◌+◌, ◌-◌, ◌≤◌, ◌<◌}
+use mathlib.Core.List.{List}
 use mathlib.Core.Path.{◌≡◌, sym, ap, ◌∙◌}
 use native.Mathlib.Omega.{arith}
-use lib.ListN.{length, length-append}
+use lib.ListN.{length}
 use Rattle.common.specs.Layout.{layout_size}
-use Rattle.pattern.specs.Reader.{read_of, parameters_of}
+use Rattle.std.specs.Prelude.{Result, Ok, Err}
+use Rattle.common.specs.declared.refusals.Refusal.{Refusal}
+use Rattle.pattern.specs.Reader.{Accepted, read_result, read_of, parameters_of}
 use Rattle.pattern.specs.ReaderLaws.{accepted_fact}
-use Rattle.pattern.specs.declared.reader.ReadResult.{ReadResult}
-use Rattle.pattern.specs.declared.reader.ReadResult.TheVariants.{Accepted, Refused}
 use Rattle.pattern.specs.declared.parameters.Parameters.{Parameters}
-use Rattle.slices.specs.SliceLaws.{copied_next, copied_left, copied_none}
+use Rattle.slices.specs.SliceLaws.{copied_left, copied_none}
 use Rattle.slices.specs.Slices.{copied}
+use Rattle.slices.proofs.StoreLaws.{part_written}
+use borrow.Rule.Slice.PartMut.{put_mid}
 use Rattle.loader.specs.Fresh.{fresh_bytes}
 use Rattle.loader.specs.FreshLaws.{fresh_parts, fresh_accepted, fresh_length}
 
-pub three_parts : (d e f g : List ℕ) (at m n : ℕ) (r s t : List ℕ) → e ≡ copied d at r → f ≡ copied e m s → g ≡ copied f n t
-    → m ≡ at + length r → n ≡ at + length r + length s → at + length r + length s + length t ≤ length d → g ≡ copied d at (r ++ s ++ t)
-three_parts d e f g at m n r s t p q w location next h =
-    let both_parts : f ≡ copied d at (r ++ s) = copied_next d e f at m r s p q location (omega arith) in
-    let size : length (r ++ s) ≡ length r + length s = length-append r s in
-    copied_next d f g at n (r ++ s) t both_parts w (omega arith) (omega arith)
-
-module _ (file memory : List ℕ) (at : ℕ) {a : ReadResult} (read : a ≡ read_of file) where
+module _ (file memory : List ℕ) (at : ℕ) {a : Result Parameters Refusal} (read : read_result a ≡ read_of file) where
   -- a refused file
-  pub put_refused : {n : ℕ} → a ≡ Refused n → memory ≡ copied memory at (fresh_bytes file)
+  pub put_refused : {refusal : Refusal} → a ≡ Err refusal → memory ≡ copied memory at (fresh_bytes file)
   unfolding fresh_bytes
-  put_refused e = sym (rw (sym read ∙ e) (copied_none memory at))
+  put_refused e = sym (rw (sym read ∙ ap read_result e) (copied_none memory at))
 
-  module _ {v : Parameters} (e : a ≡ Accepted v) where
+  module _ {v : Parameters} (e : a ≡ Ok v) where
     pub parameters_are : parameters_of file ≡ v
-    parameters_are = (accepted_fact file v (sym read ∙ e)).same
+    parameters_are = (accepted_fact file v (sym read ∙ ap read_result e)).same
 
     pub read_as : read_of file ≡ Accepted (parameters_of file)
-    read_as = sym read ∙ e ∙ ap Accepted (sym parameters_are)
+    read_as = sym read ∙ ap read_result e ∙ ap Accepted (sym parameters_are)
 
     -- no room
     pub put_left : length memory < at + layout_size v.layout → memory ≡ copied memory at (fresh_bytes file)
@@ -41,5 +36,10 @@ module _ (file memory : List ℕ) (at : ℕ) {a : ReadResult} (read : a ≡ read
         let n : length (fresh_bytes file) ≡ layout_size v.layout = fresh_length file read_as ∙ ap (λ (w : Parameters). layout_size w.layout) parameters_are in
         sym (copied_left memory at (fresh_bytes file) (omega arith))
 
-    pub put_parts : fresh_parts file v ≡ fresh_bytes file
-    put_parts = ap (fresh_parts file) (sym parameters_are) ∙ sym (fresh_accepted file read_as)
+    -- a partition that was filled
+    pub put_whole : (partition : List ℕ) (size : ℕ) → size ≡ layout_size v.layout → at + size ≤ length memory → partition ≡ fresh_parts file v
+        → put_mid at (at + size - at) memory partition ≡ copied memory at (fresh_bytes file)
+    put_whole partition size whole room filled =
+        let bytes : partition ≡ fresh_bytes file = filled ∙ ap (fresh_parts file) (sym parameters_are) ∙ sym (fresh_accepted file read_as) in
+        let long : length (fresh_bytes file) ≡ layout_size v.layout = fresh_length file read_as ∙ ap (λ (w : Parameters). layout_size w.layout) parameters_are in
+        part_written memory at size partition room (ap length bytes ∙ long ∙ sym whole) ∙ ap (copied memory at) bytes

@@ -5,9 +5,8 @@ use Rattle.std.proofs.lemmas.List.{length-replicate}
 use Rattle.common.specs.Layout.{layout_size}
 use Rattle.pattern.specs.Image.{padded}
 use Rattle.pattern.specs.ImageLaws.{padded_length}
-use Rattle.pattern.specs.Reader.{read_of, parameters_of, code_body_of, input_body_of}
+use Rattle.pattern.specs.Reader.{Accepted, read_of, parameters_of, code_body_of, input_body_of}
 use Rattle.pattern.specs.ReaderLaws.{code_fits, input_fits}
-use Rattle.pattern.specs.declared.reader.ReadResult.TheVariants.{Accepted}
 use Rattle.pattern.specs.declared.parameters.Parameters.{Parameters}
 use Rattle.loader.specs.Fresh.{fresh_bytes}
 

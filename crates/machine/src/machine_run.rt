@@ -7,6 +7,7 @@ use common::Layout;
 
 // Runs one machine: `rounds` times `quantum` steps over its partition. The state is as crate encoding has it;
 // with another length nothing is touched and the answer is 1, else it is 0.
+#[tactic(auto, using(common::specs::TestLaws::tests), unfolding(crate::specs::MachineRun::machine_outcome, crate::specs::MachineRun::machine_outcome_of, common::specs::ConditionDefinitions::condition_definitions))]
 #[unsafe(no_mangle)]
 pub extern "C" fn pf_machine_run(
     state: &mut [u8],
@@ -29,9 +30,9 @@ pub extern "C" fn pf_machine_run(
         output,
         locked,
     };
-    let start = encoding::decode_state(&state[..]);
+    let start = encoding::decode_state(state);
     let end = rounds::run_rounds(start, partition, layout, quantum, rounds);
     let bytes = encoding::encode_state(end);
-    slices::copy(state, 0, &bytes);
+    state.copy_from_slice(&bytes);
     0
 }

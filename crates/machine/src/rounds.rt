@@ -4,7 +4,7 @@ ghost use Rattle.cpu.specs.Machine.{beyond, machine_of, machine_step};
 ghost use Rattle.common.specs.Repetition.{times};
 
 use common::Layout;
-use registers::State;
+use registers::{State, Status};
 
 // So many rounds of a quantum each, until the machine stops; its state stays in a local from one to the next.
 pub(crate) fn run_rounds(
@@ -18,14 +18,11 @@ pub(crate) fn run_rounds(
     ensures partition_unchanged { beyond layout partition.new ≡ beyond layout partition.old }
 {
     let mut s = state;
-    let mut i: u64 = 0;
-    while i < rounds {
-        if s.status != 1 {
+    for _round in 0..rounds {
+        if s.status != Status::Running.number() {
             break;
         }
-        let next = cpu::run(s, partition, layout, quantum);
-        s = next;
-        i += 1;
+        s = cpu::run(s, partition, layout, quantum);
     }
     s
 }

@@ -13,62 +13,67 @@ mod relative;
 mod tally;
 
 use std::io;
-use tally::Family;
 
 fn main(rt: HostRuntime) -> io::Result<()> {
     indirect::examples(&rt)?;
     carry::overflow(&rt)?;
-    tally::line(&rt, b"Carry, borrow table", Family::Borrow, 8, b"rows")?;
+    tally::line(&rt, "Carry, borrow table", 8, "rows", carry::row_agrees)?;
     tally::line(
         &rt,
-        b"Decimal Adjust Register, BCD addition",
-        Family::Sum,
+        "Decimal Adjust Register, BCD addition",
         10000,
-        b"pairs",
+        "pairs",
+        decimal::sum_agrees,
     )?;
     tally::line(
         &rt,
-        b"Decimal Adjust Register, BCD subtraction",
-        Family::Difference,
+        "Decimal Adjust Register, BCD subtraction",
         10000,
-        b"pairs",
+        "pairs",
+        decimal::difference_agrees,
     )?;
     tally::line(
         &rt,
-        b"Decimal Adjust Register, table",
-        Family::Adjust,
+        "Decimal Adjust Register, table",
         1024,
-        b"cases",
+        "cases",
+        decimal::adjust_agrees,
     )?;
     tally::line(
         &rt,
-        b"Condition Code Usage, parity program",
-        Family::Parity,
+        "Condition Code Usage, parity program",
         256,
-        b"bytes",
+        "bytes",
+        |n| { parity::byte_agrees((n % 256) as u8) },
     )?;
     relative::zero_branches(&rt)?;
     relative::across_the_page(&rt)?;
     tally::line(
         &rt,
-        b"Appendix F, note 4, Branch on Incrementing Register",
-        Family::Incrementing,
+        "Appendix F, note 4, Branch on Incrementing Register",
         256,
-        b"values",
+        "values",
+        |n| {
+            let value = (n % 256) as u8;
+            branch::stepped_agrees(0xD9, value, value.wrapping_add(1))
+        },
     )?;
     tally::line(
         &rt,
-        b"Appendix F, note 4, Branch on Decrementing Register",
-        Family::Decrementing,
+        "Appendix F, note 4, Branch on Decrementing Register",
         256,
-        b"values",
+        "values",
+        |n| {
+            let value = (n % 256) as u8;
+            branch::stepped_agrees(0xF9, value, value.wrapping_sub(1))
+        },
     )?;
     index::wrapping_index(&rt)?;
     tally::line(
         &rt,
-        b"Appendix F, note 9, unconditional branches",
-        Family::Unconditional,
+        "Appendix F, note 9, unconditional branches",
         16,
-        b"cases",
+        "cases",
+        branch::unconditional_agrees,
     )
 }

@@ -1,6 +1,6 @@
 // "Condition Code Usage": the parity of the byte at CHAR, by the program as printed. It has WC EQU H'04', which is OVF's bit;
 // PSL is zero before it runs, so that WC is clear all the same.
-use crate::machine;
+use crate::machine::Example;
 
 // Where the program halts: EVEN is at 13h and ODD at 14h, and the counter is past the HALT.
 const EVEN: u16 = 0x14;
@@ -23,15 +23,14 @@ fn halts_at(char: u8) -> u16 {
         0x40, // EVEN  HALT
         0x40, // ODD  HALT
     ];
-    machine::counter(machine::run(machine::started(1, 0, 0, 0), &mut window, 64))
+    Example::at(1).run(&mut window, 64).counter()
 }
 
-pub(crate) fn byte_agrees(n: u64) -> bool {
-    let char = (n % 256) as u8;
-    let expected = if u32::count_ones(char as u32) % 2 == 0 {
-        EVEN
-    } else {
-        ODD
-    };
-    halts_at(char) == expected
+pub(crate) fn byte_agrees(char: u8) -> bool {
+    halts_at(char)
+        == if char.count_ones() % 2 == 0 {
+            EVEN
+        } else {
+            ODD
+        }
 }

@@ -1,39 +1,19 @@
-// Standard output, piece by piece. A write that fails ends the program: `main` returns its error.
-use crate::machine;
-use registers::State;
+// What several lines have in common.
+use crate::machine::Example;
 use std::io;
 
-pub(crate) fn text(rt: &impl Print, s: &[u8]) -> io::Result<()> {
-    rt.write_all(s)
-}
-
-pub(crate) fn number(rt: &impl Print, n: u64) -> io::Result<()> {
-    print!(rt; "{n}")
-}
-
-fn digit(v: u8) -> u8 {
-    let d = v % 16;
-    if d < 10 { 48 + d } else { 55 + d }
-}
-
-// A byte in the manual's way: two hexadecimal digits, capitals.
-pub(crate) fn byte(rt: &impl Print, v: u8) -> io::Result<()> {
-    let s = [digit(v / 16), digit(v)];
-    text(rt, &s)
-}
-
 // A line's end: whether the manual says the same.
-pub(crate) fn verdict(rt: &impl Print, agrees: bool) -> io::Result<()> {
+pub(crate) fn verdict(agrees: bool) -> &'static str {
     if agrees {
-        text(rt, b": as in the manual\n")
+        "as in the manual"
     } else {
-        text(rt, b": NOT as in the manual\n")
+        "NOT as in the manual"
     }
 }
 
 // What R2 holds, against what the manual loads into it.
-pub(crate) fn r2(rt: &impl Print, s: State, expected: u8) -> io::Result<()> {
-    text(rt, b"R2 ")?;
-    byte(rt, machine::r2(s))?;
-    verdict(rt, machine::r2(s) == expected)
+pub(crate) fn r2(rt: &impl Print, name: &str, example: Example, expected: u8) -> io::Result<()> {
+    let r2 = example.r2();
+    let verdict = verdict(r2 == expected);
+    println!(rt; "{name}: R2 {r2:02X}: {verdict}")
 }

@@ -1,70 +1,70 @@
 // Relative addresses around the ends of a page.
-use crate::{machine, print};
-use registers::State;
+ghost use Rattle.std.specs.Prelude.{◌<◌, ◌+◌};
+
+use crate::machine::Example;
+use crate::print;
+use crate::print::verdict;
 use std::io;
 
 // A two-byte instruction at 2002h, in page 1, so that a branch to page 0 shows.
-fn in_page_1(code: u8, displacement: u8) -> State {
+fn in_page_1(code: u8, displacement: u8) -> Example {
     let mut window = [0u8; 0x2004];
     window[0x2002] = code;
     window[0x2003] = displacement;
-    machine::step(machine::started(0x2002, 0, 0, 0), &mut window)
+    Example::at(0x2002).step(&mut window)
 }
 
-fn branch(rt: &impl Print, displacement: u8, target: u16) -> io::Result<()> {
-    let s = in_page_1(0x9B, displacement);
-    print::number(rt, machine::counter(s) as u64)?;
-    print::verdict(rt, machine::counter(s) == target)
+fn branch(rt: &impl Print, name: &str, displacement: u8, target: u16) -> io::Result<()> {
+    let counter = in_page_1(0x9B, displacement).counter();
+    let verdict = verdict(counter == target);
+    println!(rt; "Zero Branch Relative, {name}: to {counter}: {verdict}")
 }
 
 // A call stores the address of the byte after it, at SP 1.
-fn call(rt: &impl Print, displacement: u8, target: u16) -> io::Result<()> {
-    let s = in_page_1(0xBB, displacement);
-    print::number(rt, machine::counter(s) as u64)?;
-    print::text(rt, b", back to ")?;
-    print::number(rt, machine::first_return(s) as u64)?;
-    print::verdict(
-        rt,
-        (machine::counter(s) == target)
-            & (machine::first_return(s) == 0x2004)
-            & (machine::sp(s) == 1),
+fn call(rt: &impl Print, name: &str, displacement: u8, target: u16) -> io::Result<()> {
+    let called = in_page_1(0xBB, displacement);
+    println!(rt;
+        "Zero Branch to Subroutine, {name}: to {}, back to {}: {}",
+        called.counter(),
+        called.first_return(),
+        verdict(called.counter() == target && called.first_return() == 0x2004 && called.sp() == 1)
     )
 }
 
 // "Zero Branch Relative" and "Zero Branch to Subroutine, Relative": the displacement is from address 0.
 pub(crate) fn zero_branches(rt: &impl Print) -> io::Result<()> {
-    print::text(rt, b"Zero Branch Relative, ZBRR -8: to ")?;
-    branch(rt, 0x78, 8184)?;
-    print::text(rt, b"Zero Branch Relative, ZBRR +52: to ")?;
-    branch(rt, 52, 52)?;
-    print::text(rt, b"Zero Branch to Subroutine, ZBSR -10: to ")?;
-    call(rt, 0x76, 8182)?;
-    print::text(rt, b"Zero Branch to Subroutine, ZBSR 31: to ")?;
-    call(rt, 31, 31)
+    branch(rt, "ZBRR -8", 0x78, 8184)?;
+    branch(rt, "ZBRR +52", 52, 52)?;
+    call(rt, "ZBSR -10", 0x76, 8182)?;
+    call(rt, "ZBSR 31", 31, 31)
 }
 
-// LODR,R2 $+16 at 1FFCh, and H'67' at 000Ch. Every other byte of the page is zero.
-fn over_the_top() -> State {
+// LODR,R2 at an address of page 0, and H'67' at another. Every other byte of the page is zero.
+fn load_relative(instruction: u16, displacement: u8, operand: u16) -> Example
+    requires instruction { instruction + 1 < 0x2000 }
+    requires operand { operand < 0x2000 }
+{
     let mut window = [0u8; 0x2000];
-    window[0x1FFC] = 0x0A;
-    window[0x1FFD] = 0x0E;
-    window[0x000C] = 0x67;
-    machine::step(machine::started(0x1FFC, 0, 0, 0), &mut window)
-}
-
-// LODR,R2 $-16 at 0004h, and H'67' at 1FF4h.
-fn under_the_bottom() -> State {
-    let mut window = [0u8; 0x2000];
-    window[0x0004] = 0x0A;
-    window[0x0005] = 0x6E;
-    window[0x1FF4] = 0x67;
-    machine::step(machine::started(0x0004, 0, 0, 0), &mut window)
+    window[instruction as usize] = 0x0A;
+    window[instruction as usize + 1] = displacement;
+    window[operand as usize] = 0x67;
+    Example::at(instruction).step(&mut window)
 }
 
 // Appendix F, note 5: relative addressing is modulo 8K. The first is the manual's example, the second its "similarly".
 pub(crate) fn across_the_page(rt: &impl Print) -> io::Result<()> {
-    print::text(rt, b"Appendix F, note 5, LODR,R2 $+16 at 1FFC: ")?;
-    print::r2(rt, over_the_top(), 0x67)?;
-    print::text(rt, b"Appendix F, note 5, LODR,R2 $-16 at 0004: ")?;
-    print::r2(rt, under_the_bottom(), 0x67)
+    let over_the_top = load_relative(0x1FFC, 0x0E, 0x000C);
+    print::r2(
+        rt,
+        "Appendix F, note 5, LODR,R2 $+16 at 1FFC",
+        over_the_top,
+        0x67,
+    )?;
+    let under_the_bottom = load_relative(0x0004, 0x6E, 0x1FF4);
+    print::r2(
+        rt,
+        "Appendix F, note 5, LODR,R2 $-16 at 0004",
+        under_the_bottom,
+        0x67,
+    )
 }

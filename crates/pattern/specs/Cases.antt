@@ -3,11 +3,9 @@
 use Rattle.std.specs.Prelude.{ℕ, ◌+◌, true, List, [], ◌∷◌, ◌++◌, ◌≡◌, refl, length}
 use Rattle.pattern.specs.Parameters.{is_in_range}
 use Rattle.pattern.specs.Image.{padded}
-use Rattle.pattern.specs.Reader.{read_of, code_body_of, input_body_of}
-use Rattle.pattern.specs.Writer.{file_of, write_of}
+use Rattle.pattern.specs.Reader.{Accepted, Refused, read_of, code_body_of, input_body_of}
+use Rattle.pattern.specs.Writer.{Written, WriteRefused, file_of, write_of}
 use Rattle.pattern.specs.declared.parameters.Parameters.{Parameters}
-use Rattle.pattern.specs.declared.reader.ReadResult.TheVariants.{Accepted, Refused}
-use Rattle.pattern.specs.declared.writer.WriteResult.TheVariants as written
 use Rattle.pattern.specs.FileDefinitions.{file_definitions}
 
 abbrev pub k10_code : List ℕ
@@ -51,8 +49,8 @@ pub record WorkedFiles : Type 0 where
   pub k10_code_law : code_body_of k10 ≡ k10_code
   pub k10_input : input_body_of k10 ≡ 0x41 ∷ []
   pub k10_file : file_of (parameters_with 16 0 0) (padded 16 k10_code) (0x41 ∷ []) ≡ k10
-  pub k10_written : write_of (parameters_with 16 0 0) (padded 16 k10_code) (0x41 ∷ []) 37 ≡ written.Written 37
-  pub k10_no_room : write_of (parameters_with 16 0 0) (padded 16 k10_code) (0x41 ∷ []) 36 ≡ written.Refused 16
+  pub k10_written : write_of (parameters_with 16 0 0) (padded 16 k10_code) (0x41 ∷ []) 37 ≡ Written 37
+  pub k10_no_room : write_of (parameters_with 16 0 0) (padded 16 k10_code) (0x41 ∷ []) 36 ≡ WriteRefused 16
   pub k10_cut : read_of (0x50 ∷ 0x56 ∷ 0x00 ∷ 0x02 ∷ 0x01 ∷ []) ≡ Refused 6
   pub k10_more : read_of (k10 ++ (0x00 ∷ [])) ≡ Refused 6
   pub k10_body_left : code_body_of (k10 ++ (0x00 ∷ [])) ≡ []
@@ -60,7 +58,7 @@ pub record WorkedFiles : Type 0 where
   pub most_in_range : is_in_range (record { layout = record { window = 32768; input = 4096; output = 4096; locked = 32768 }; start = record { 0 = 32767 }; quantum = 255 }) ≡ true
   pub window_most : read_of (small_file 0x80 0x00 0x00 0x00) ≡ Accepted (parameters_with 32768 0 0)
   pub window_above : read_of (small_file 0x80 0x01 0x00 0x00) ≡ Refused 9
-  pub window_above_written : write_of (parameters_with 32769 0 0) [] [] 100 ≡ written.Refused 9
+  pub window_above_written : write_of (parameters_with 32769 0 0) [] [] 100 ≡ WriteRefused 9
   pub start_last : read_of (small_file 0x00 0x10 0x00 0x0F) ≡ Accepted (parameters_with 16 15 0)
   pub start_outside : read_of (small_file 0x00 0x10 0x00 0x10) ≡ Refused 9
   pub plain_file : k10_with 1 [] ≡ k10
@@ -68,12 +66,12 @@ pub record WorkedFiles : Type 0 where
   pub locked_code : code_body_of (k10_with 2 (0x00 ∷ 0x03 ∷ [])) ≡ k10_code
   pub locked_input : input_body_of (k10_with 2 (0x00 ∷ 0x03 ∷ [])) ≡ 0x41 ∷ []
   pub locked_file : file_of (parameters_with 16 0 3) (padded 16 k10_code) (0x41 ∷ []) ≡ k10_with 2 (0x00 ∷ 0x03 ∷ [])
-  pub locked_written : write_of (parameters_with 16 0 3) (padded 16 k10_code) (0x41 ∷ []) 39 ≡ written.Written 39
-  pub locked_no_room : write_of (parameters_with 16 0 3) (padded 16 k10_code) (0x41 ∷ []) 38 ≡ written.Refused 16
+  pub locked_written : write_of (parameters_with 16 0 3) (padded 16 k10_code) (0x41 ∷ []) 39 ≡ Written 39
+  pub locked_no_room : write_of (parameters_with 16 0 3) (padded 16 k10_code) (0x41 ∷ []) 38 ≡ WriteRefused 16
   pub locked_none : read_of (k10_with 2 (0x00 ∷ 0x00 ∷ [])) ≡ Refused 9
   pub locked_whole : read_of (k10_with 2 (0x00 ∷ 0x10 ∷ [])) ≡ Accepted (parameters_with 16 0 16)
   pub locked_above : read_of (k10_with 2 (0x00 ∷ 0x11 ∷ [])) ≡ Refused 9
-  pub locked_above_written : write_of (parameters_with 16 0 17) (padded 16 k10_code) (0x41 ∷ []) 39 ≡ written.Refused 9
+  pub locked_above_written : write_of (parameters_with 16 0 17) (padded 16 k10_code) (0x41 ∷ []) 39 ≡ WriteRefused 9
   pub locked_nine_bytes : read_of (k10_with 2 []) ≡ Refused 6
   pub plain_eleven_bytes : read_of (k10_with 1 (0x00 ∷ 0x03 ∷ [])) ≡ Refused 6
   pub form_above : read_of (k10_with 3 (0x00 ∷ 0x03 ∷ [])) ≡ Refused 7

@@ -1,5 +1,6 @@
 -- Names for lists of definitions: `unfolding file_definitions` opens all that reading and writing a file is made of, so that a worked
 -- case computes. Nothing here has to be believed.
+use Rattle.common.specs.ConditionDefinitions.{condition_definitions}
 use Rattle.common.specs.Choice.{when◌then◌else◌}
 use Rattle.common.specs.Layout.{layout_sound}
 use Rattle.common.specs.Refusals.{unless}
@@ -19,3 +20,8 @@ record_definitions = Unit {0}
 unfoldable pub file_definitions : Type 0
 unfolding record_definitions unless when◌then◌else◌ version_conditions parameters_conditions code_conditions input_conditions end_conditions read_of code_body_of input_body_of records_of write_conditions write_of
 file_definitions = Unit {0}
+
+-- what refuses a writing
+unfoldable pub write_definitions : Type 0
+unfolding condition_definitions write_conditions write_of
+write_definitions = Unit {0}

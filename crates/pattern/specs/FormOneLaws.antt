@@ -8,13 +8,11 @@ use Rattle.common.specs.Refusals.{Condition, ◌gives◌, unless}
 use Rattle.slices.specs.Numbers.{u16_at}
 use Rattle.pattern.specs.Parameters.{is_in_range, form_of, parameters_length, parameters_from_bytes}
 use Rattle.pattern.specs.Frame.{body_of, has_frame_of_length}
-use Rattle.pattern.specs.Reader.{from_parameters, from_code, from_input, from_end, form_in, board_in, parameters_in, version_length, version_conditions, parameters_conditions, code_conditions, input_conditions, end_conditions, read_of}
+use Rattle.pattern.specs.Reader.{ReadResult, Accepted, Refused, from_parameters, from_code, from_input, from_end, form_in, board_in, parameters_in, version_length, version_conditions, parameters_conditions, code_conditions, input_conditions, end_conditions, read_of}
 use Rattle.pattern.specs.ParameterLaws.{form_plain, form_locked}
 use Rattle.pattern.specs.FrameLaws.{has_frame_of_length_fact, frame_body_length}
 use Rattle.pattern.specs.ReaderLaws.{accepted_fact, read_form}
 use Rattle.pattern.specs.declared.parameters.Parameters.{Parameters}
-use Rattle.pattern.specs.declared.reader.ReadResult.{ReadResult}
-use Rattle.pattern.specs.declared.reader.ReadResult.TheVariants.{Accepted, Refused}
 
 -- ---- the reader of form 1 alone: another `PV` and another `PB`, the other records as ever
 

@@ -3,6 +3,16 @@ use Rattle.std.specs.Prelude.{ℕ, ◌+◌, Bool, ◌&&◌, List, [], ◌∷◌,
 use Rattle.common.specs.Tests.{all}
 use Rattle.slices.specs.Numbers.{u16_bytes, u16_at}
 use Rattle.slices.specs.Slices.{part_of}
+use Rattle.pattern.specs.declared.frame.Mark.{Mark}
+use Rattle.pattern.specs.declared.frame.Mark.TheVariants as marks
+
+-- the second byte of each mark; the first is `P` (50h)
+abbrev pub mark_number : Mark → ℕ
+mark_number marks.Version = 0x56
+mark_number marks.Parameters = 0x42
+mark_number marks.Code = 0x43
+mark_number marks.Input = 0x49
+mark_number marks.End = 0x45
 
 -- how many bytes stand in front of a body
 abbrev pub frame_length : ℕ

@@ -1,5 +1,5 @@
 -- Laws that the checker has shown: trimming and padding undo each other.
-use Rattle.std.specs.Prelude.{ℕ, zero, suc, ◌-◌, ◌≤◌, ◌<◌, Bool, true, false, not, ◌&&◌, List, [], ◌∷◌, ◌++◌, ◌≡◌, refl, length, get_or, take, replicate, eqb}
+use Rattle.std.specs.Prelude.{ℕ, zero, suc, ◌+◌, ◌-◌, ◌≤◌, ◌<◌, Bool, true, false, not, ◌&&◌, List, [], ◌∷◌, ◌++◌, ◌≡◌, refl, length, get_or, take, replicate, eqb}
 use Rattle.std.proofs.Common.{append-nil, append_assoc, sym, ap, ◌∙◌, arith, length-append, length-take, take-suc, eqb-true, ne_eqb, eq-eqb}
 use Rattle.std.proofs.lemmas.List.{length-replicate, get_or-replicate}
 use Rattle.std.proofs.Math.Seq.{take-length}
@@ -33,6 +33,25 @@ trim_step s n h k z = sym (ap trim (take_last s n h k ∙ ap (λ (x : ℕ). take
 
 pub trim_stop : (s : List ℕ) (n : ℕ) → 0 < n → n ≤ length s → (get_or s (n - 1) 0 ≡ 0 → ⊥) → trim (take n s) ≡ take n s
 trim_stop s n h k z = ap trim (take_last s n h k) ∙ trim_last (take (n - 1) s) (get_or s (n - 1) 0) z ∙ sym (take_last s n h k)
+
+-- zeros trim to nothing, and a list whose last byte other than zero is at i trims to the bytes up to there
+pub trim_all : (s : List ℕ) → ((k : ℕ) → k < length s → get_or s k 0 ≡ 0) → trim s ≡ []
+unfolding trim when◌then◌else◌
+trim_all [] zeros = refl
+trim_all (x ∷ xs) zeros =
+    ap (cons_trimmed x) (trim_all xs (λ k less. zeros (suc k) (omega arith))) ∙ rw (eq-eqb x 0 (zeros 0 (omega arith)))
+
+pub trim_to : (s : List ℕ) (i : ℕ) → i < length s → (get_or s i 0 ≡ 0 → ⊥) → ((k : ℕ) → i < k → k < length s → get_or s k 0 ≡ 0) → trim s ≡ take (i + 1) s
+unfolding trim when◌then◌else◌
+trim_to s i less some zeros = let e : suc i ≡ i + 1 = omega arith in go s i less some zeros ∙ ap (λ (n : ℕ). take n s) e
+  where
+    go : (s : List ℕ) (i : ℕ) → i < length s → (get_or s i 0 ≡ 0 → ⊥) → ((k : ℕ) → i < k → k < length s → get_or s k 0 ≡ 0) → trim s ≡ take (suc i) s
+    go [] i less some zeros = absurd (omega arith)
+    go (x ∷ xs) zero less some zeros =
+        ap (cons_trimmed x) (trim_all xs (λ k h. zeros (suc k) (omega arith) (omega arith))) ∙ rw (ne_eqb x 0 some)
+    go (x ∷ []) (suc i) less some zeros = absurd (omega arith)
+    go (x ∷ y ∷ ys) (suc i) less some zeros =
+        ap (cons_trimmed x) (go (y ∷ ys) i (omega arith) some (λ k more h. zeros (suc k) (omega arith) (omega arith)))
 
 -- the trimmed list is a front
 pub trim_front : (s : List ℕ) → take (length (trim s)) s ≡ trim s

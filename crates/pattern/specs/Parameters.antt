@@ -1,17 +1,31 @@
--- Definitions that must be believed: the parameters of a pattern, their ranges, and how they look as bytes (document 01, "Pattern file, form 1", `PB`;
--- document 02, U6: form 2 has the locked length too).
-use Rattle.std.specs.Prelude.{ℕ, Bool, List, [], ◌∷◌, ltb, eqb, get_or, take}
+-- Definitions that must be believed: the parameters of a pattern, their ranges, the form of their file, and how they look as bytes
+-- (document 01, "Pattern file, form 1", `PB`; document 02, U6: form 2 has the locked length too).
+use Rattle.std.specs.Prelude.{ℕ, Bool, true, not, ◌&&◌, List, [], ◌∷◌, ◌≡◌, Result, Ok, Err, ltb, eqb, get_or, take}
 use Rattle.common.specs.Choice.{when◌then◌else◌}
 use Rattle.common.specs.Layout.{layout_sound}
 use Rattle.common.specs.Ranges.{is_one_to}
+use Rattle.common.specs.Refusals.{refusal_number}
+use Rattle.common.specs.declared.refusals.Refusal.{Refusal}
 use Rattle.common.specs.Tests.{all}
 use Rattle.slices.specs.Numbers.{u16_bytes, u16_at}
 use Rattle.slices.specs.Slices.{concat}
+use Rattle.pattern.specs.declared.parameters.Form.{Form}
+use Rattle.pattern.specs.declared.parameters.Form.TheVariants.{Plain, Locked}
 use Rattle.pattern.specs.declared.parameters.Parameters.{Parameters}
 
 -- a sound layout; start below the window size; quantum 1 to 255
 unfoldable pub is_in_range : Parameters → Bool
 is_in_range p = all (layout_sound p.layout ∷ ltb p.start.0 p.layout.window ∷ is_one_to p.quantum 255 ∷ [])
+
+-- the number of a form of the code
+abbrev pub form_number : Form → ℕ
+form_number Plain = 1
+form_number Locked = 2
+
+-- taking a number for a form: the form of that number, or, where there is none, refusal 7
+abbrev pub TakesForm : ℕ → Result Form Refusal → Type 0
+TakesForm n (Ok form) = form_number form ≡ n
+TakesForm n (Err refusal) = (refusal_number refusal ≡ 7) × ((not (eqb n 1) && not (eqb n 2)) ≡ true)
 
 -- the form of a pattern's file: 1 exactly if nothing is locked
 unfoldable pub form_of : Parameters → ℕ

@@ -1,13 +1,22 @@
 -- Definitions that must be believed: reading a pattern file (document 01, "Pattern file, form 1" and "Turned back, by place";
 -- document 02, U6: form 2).
-use Rattle.std.specs.Prelude.{ℕ, ◌+◌, not, ◌&&◌, List, [], ◌∷◌, ◌≡◌, length, get_or, ltb, eqb}
-use Rattle.common.specs.Refusals.{Condition, ◌gives◌, unless}
+use Rattle.std.specs.Prelude.{ℕ, ◌+◌, not, ◌&&◌, List, [], ◌∷◌, ◌≡◌, Result, Ok, Err, length, get_or, ltb, eqb}
+use Rattle.common.specs.Refusals.{Condition, ◌gives◌, unless, refusal_number}
+use Rattle.common.specs.declared.refusals.Refusal.{Refusal}
 use Rattle.pattern.specs.Parameters.{is_in_range, form_of, parameters_length, parameters_from_bytes}
 use Rattle.pattern.specs.Frame.{frame_length, body_length, body_of, record_length, behind_record, has_frame, has_frame_of_length}
 use Rattle.pattern.specs.Image.{padded, ends_in_zero}
 use Rattle.pattern.specs.declared.parameters.Parameters.{Parameters}
-use Rattle.pattern.specs.declared.reader.ReadResult.{ReadResult}
-use Rattle.pattern.specs.declared.reader.ReadResult.TheVariants.{Accepted, Refused}
+
+-- what reading a file answers: its parameters, or the number of the refusal
+pub data ReadResult : Type 0 where
+  Accepted : Parameters → ReadResult
+  Refused : ℕ → ReadResult
+
+-- that answer, of the code's
+abbrev pub read_result : Result Parameters Refusal → ReadResult
+read_result (Ok p) = Accepted p
+read_result (Err refusal) = Refused (refusal_number refusal)
 
 -- the file from each record on: `PV` stands at its front
 abbrev pub from_parameters : List ℕ → List ℕ
@@ -32,10 +41,6 @@ board_in s = get_or (body_of s) 1 0
 -- the parameters in the body of `PB` at the front of s
 abbrev pub parameters_in : List ℕ → Parameters
 parameters_in s = parameters_from_bytes (body_of s)
-
--- before `PB` is read there are no parameters
-abbrev pub no_parameters : Parameters
-no_parameters = record { layout = record { window = 0; input = 0; output = 0; locked = 0 }; start = record { 0 = 0 }; quantum = 0 }
 
 -- the length of the body of `PV`
 abbrev pub version_length : ℕ

@@ -10,15 +10,13 @@ use Rattle.std.proofs.lemmas.Bool.{not-false}
 use Rattle.pattern.specs.Parameters.{is_in_range, form_of, parameters_length}
 use Rattle.pattern.specs.Frame.{frame_length, body_length, body_of, record_length, behind_record, has_frame, has_frame_of_length}
 use Rattle.pattern.specs.Image.{ends_in_zero}
-use Rattle.pattern.specs.Reader.{from_parameters, from_code, from_input, from_end, form_in, board_in, parameters_in, parameters_of, version_length, version_conditions, parameters_conditions, code_conditions, input_conditions, end_conditions, read_of, read_refusal, if_accepted, code_body_of, input_body_of, code_offset, input_offset}
+use Rattle.pattern.specs.Reader.{ReadResult, Accepted, Refused, from_parameters, from_code, from_input, from_end, form_in, board_in, parameters_in, parameters_of, version_length, version_conditions, parameters_conditions, code_conditions, input_conditions, end_conditions, read_of, read_refusal, if_accepted, code_body_of, input_body_of, code_offset, input_offset}
 use Rattle.common.specs.Refusals.{Condition, unless}
 use Rattle.common.specs.RefusalLaws.{EachNumber, NoneHolds, NoneGivesZero, none_unless, unless_holds, unless_none}
 use Rattle.slices.specs.Slices.{part_of}
 use Rattle.pattern.specs.ParameterLaws.{InRange, range_fact}
 use Rattle.pattern.specs.FrameLaws.{FrameHolds, has_frame_fact, has_frame_of_length_fact, frame_body_length}
 use Rattle.pattern.specs.declared.parameters.Parameters.{Parameters}
-use Rattle.pattern.specs.declared.reader.ReadResult.{ReadResult}
-use Rattle.pattern.specs.declared.reader.ReadResult.TheVariants.{Accepted, Refused}
 use Rattle.common.specs.ConditionDefinitions.{condition_definitions}
 
 -- a file is accepted exactly if no condition of any record holds; the answer is then the parameters in it
@@ -221,7 +219,29 @@ module _ (s : List ℕ) (v : Parameters) (accepted : read_of s ≡ Accepted v) w
   pub code_ends : ends_in_zero (code_body_of s) ≡ false
   code_ends = ap ends_in_zero code_body_is ∙ (accepted_file s v accepted).code.ends
 
--- a refusal's number is never 0: where reading gives none, the file is accepted
+-- a refusal's number is never 0
+module _ (s : List ℕ) where
+  pub version_numbered : NoneGivesZero (version_conditions s)
+  unfolding version_conditions
+  version_numbered = (λ z. omega arith, (λ z. omega arith, (λ z. omega arith, tt)))
+
+  pub parameters_numbered : (form : ℕ) → NoneGivesZero (parameters_conditions form s)
+  unfolding parameters_conditions
+  parameters_numbered form = (λ z. omega arith, (λ z. omega arith, (λ z. omega arith, tt)))
+
+  pub code_numbered : (v : Parameters) → NoneGivesZero (code_conditions v s)
+  unfolding code_conditions
+  code_numbered v = (λ z. omega arith, (λ z. omega arith, (λ z. omega arith, tt)))
+
+  pub input_numbered : (v : Parameters) → NoneGivesZero (input_conditions v s)
+  unfolding input_conditions
+  input_numbered v = (λ z. omega arith, (λ z. omega arith, tt))
+
+  pub end_numbered : NoneGivesZero (end_conditions s)
+  unfolding end_conditions
+  end_numbered = (λ z. omega arith, (λ z. omega arith, tt))
+
+-- so where reading gives none, the file is accepted
 unless_zero : (ks : List Condition) (a : ReadResult) → NoneGivesZero ks → read_refusal (unless Refused ks a) ≡ 0 → (unless Refused ks a ≡ a) × (read_refusal a ≡ 0)
 unfolding condition_definitions
 unless_zero [] a n e = (refl, e)
@@ -234,13 +254,13 @@ unless_zero (k ∷ ks) a n e = go k.holds refl e (unless_zero ks a n.1)
     go false q e further = further e
 
 pub read_zero : (s : List ℕ) → read_refusal (read_of s) ≡ 0 → read_of s ≡ Accepted (parameters_of s)
-unfolding read_of version_conditions parameters_conditions code_conditions input_conditions end_conditions
+unfolding read_of
 read_zero s e =
-    let v = unless_zero (version_conditions s) _ (λ z. omega arith, (λ z. omega arith, (λ z. omega arith, tt))) e in
-    let p = unless_zero (parameters_conditions (form_in s) (from_parameters s)) _ (λ z. omega arith, (λ z. omega arith, (λ z. omega arith, tt))) v.1 in
-    let c = unless_zero (code_conditions (parameters_of s) (from_code s)) _ (λ z. omega arith, (λ z. omega arith, (λ z. omega arith, tt))) p.1 in
-    let i = unless_zero (input_conditions (parameters_of s) (from_input s)) _ (λ z. omega arith, (λ z. omega arith, tt)) c.1 in
-    let x = unless_zero (end_conditions (from_end s)) _ (λ z. omega arith, (λ z. omega arith, tt)) i.1 in
+    let v = unless_zero (version_conditions s) _ (version_numbered s) e in
+    let p = unless_zero (parameters_conditions (form_in s) (from_parameters s)) _ (parameters_numbered (from_parameters s) (form_in s)) v.1 in
+    let c = unless_zero (code_conditions (parameters_of s) (from_code s)) _ (code_numbered (from_code s) (parameters_of s)) p.1 in
+    let i = unless_zero (input_conditions (parameters_of s) (from_input s)) _ (input_numbered (from_input s) (parameters_of s)) c.1 in
+    let x = unless_zero (end_conditions (from_end s)) _ (end_numbered (from_end s)) i.1 in
     v.0 ∙ p.0 ∙ c.0 ∙ i.0 ∙ x.0
 
 -- a refusal's number is at most 11

@@ -10,13 +10,12 @@ use Rattle.common.specs.RefusalLaws.{NoneHolds}
 use Rattle.pattern.specs.Parameters.{is_in_range, form_of, parameters_length, parameters_body, parameters_from_bytes}
 use Rattle.pattern.specs.Frame.{frame_length, record_of, body_length, body_of, record_length, behind_record, has_frame_of_length}
 use Rattle.pattern.specs.Image.{ends_in_zero}
-use Rattle.pattern.specs.Reader.{from_parameters, from_code, from_input, from_end, form_in, parameters_in, parameters_of, version_length, version_conditions, parameters_conditions, code_conditions, input_conditions, end_conditions, read_of, code_body_of, input_body_of}
+use Rattle.pattern.specs.Reader.{Accepted, from_parameters, from_code, from_input, from_end, form_in, parameters_in, parameters_of, version_length, version_conditions, parameters_conditions, code_conditions, input_conditions, end_conditions, read_of, code_body_of, input_body_of}
 use Rattle.pattern.specs.Writer.{version_body, records_of}
 use Rattle.pattern.specs.ParameterLaws.{form_known, parameters_length_law, parameters_decoded, parameters_encoded}
 use Rattle.pattern.specs.FrameLaws.{record_length_law, record_body_length, record_has_frame, record_has_frame_of_length, record_body, record_rest, frame_body_length, bytes_behind_record, bytes_of_body, frame_split}
 use Rattle.pattern.specs.ReaderLaws.{NoneRefuses, accepted_test, VersionRecord, ParametersRecord, EndRecord, AcceptedFile, accepted_file, read_form, code_body_is, input_body_is}
 use Rattle.pattern.specs.declared.parameters.Parameters.{Parameters}
-use Rattle.pattern.specs.declared.reader.ReadResult.TheVariants.{Accepted}
 
 -- ---- reading the records of a pattern
 

@@ -6,17 +6,14 @@ use Rattle.std.proofs.lemmas.List.{length-replicate}
 use Rattle.slices.specs.Slices.{AllBytes}
 use Rattle.pattern.specs.Parameters.{is_in_range, form_of}
 use Rattle.pattern.specs.Image.{trim, padded, ends_in_zero}
-use Rattle.pattern.specs.Reader.{form_in, parameters_of, read_of, code_body_of, input_body_of, image_of, IsFile}
-use Rattle.pattern.specs.Writer.{records_of, smallest_length, file_of, write_of, buffer_after, written_buffer}
+use Rattle.pattern.specs.Reader.{Accepted, form_in, parameters_of, read_of, code_body_of, input_body_of, image_of, IsFile}
+use Rattle.pattern.specs.Writer.{WriteResult, Written, records_of, smallest_length, file_of, write_of, buffer_after, written_buffer}
 use Rattle.pattern.specs.ParameterLaws.{form_plain, form_one_plain, plain_length, locked_length, parameters_least, parameters_most}
 use Rattle.pattern.specs.ImageLaws.{trim_short, trim_ends, trim_kept, replicate_ends, padded_trim, padded_length, trim_padded}
 use Rattle.pattern.specs.ReaderLaws.{accepted_file, read_form, read_in_range, read_ranges, code_fits, input_fits, code_ends}
 use Rattle.pattern.specs.WriterLaws.{file_length, written_accepted, accepted_written}
 use Rattle.pattern.specs.RoundTripLaws.{read_records, code_of_records, input_of_records, records_again}
 use Rattle.pattern.specs.declared.parameters.Parameters.{Parameters}
-use Rattle.pattern.specs.declared.reader.ReadResult.TheVariants.{Accepted}
-use Rattle.pattern.specs.declared.writer.WriteResult.{WriteResult}
-use Rattle.pattern.specs.declared.writer.WriteResult.TheVariants.{Written}
 
 -- a pattern that can be written: its parameters are in range, the image fills the window, the input fits
 module _ (v : Parameters) (image input : List ℕ) (range : is_in_range v ≡ true) (whole : length image ≡ v.layout.window) (few : length input ≤ v.layout.input) where

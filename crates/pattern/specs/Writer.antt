@@ -1,15 +1,24 @@
 -- Definitions that must be believed: writing a pattern file (document 01, "Pattern file, form 1" and "Turned back, by place";
 -- document 02, U6: form 2).
-use Rattle.std.specs.Prelude.{ℕ, ◌+◌, ◌*◌, not, List, [], ◌∷◌, ◌++◌, length, drop, ltb, eqb}
+use Rattle.std.specs.Prelude.{ℕ, ◌+◌, ◌*◌, not, List, [], ◌∷◌, ◌++◌, Result, Ok, Err, length, drop, ltb, eqb}
 use Rattle.slices.specs.Slices.{concat}
-use Rattle.common.specs.Refusals.{Condition, ◌gives◌, unless}
+use Rattle.common.specs.Refusals.{Condition, ◌gives◌, unless, refusal_number}
+use Rattle.common.specs.declared.refusals.Refusal.{Refusal}
 use Rattle.pattern.specs.Parameters.{is_in_range, form_of, parameters_length, parameters_body}
 use Rattle.pattern.specs.Frame.{frame_length, record_of}
 use Rattle.pattern.specs.Image.{trim}
 use Rattle.pattern.specs.Reader.{version_length}
 use Rattle.pattern.specs.declared.parameters.Parameters.{Parameters}
-use Rattle.pattern.specs.declared.writer.WriteResult.{WriteResult}
-use Rattle.pattern.specs.declared.writer.WriteResult.TheVariants.{Written, Refused}
+
+-- what writing a file answers: its length, or the number of the refusal
+pub data WriteResult : Type 0 where
+  Written : ℕ → WriteResult
+  WriteRefused : ℕ → WriteResult
+
+-- that answer, of the code's
+abbrev pub write_result : Result ℕ Refusal → WriteResult
+write_result (Ok n) = Written n
+write_result (Err refusal) = WriteRefused (refusal_number refusal)
 
 -- the body of `PV`: form and board
 abbrev pub version_body : Parameters → List ℕ
@@ -46,17 +55,12 @@ write_conditions p image input room =
 
 -- what writing answers: the file's length, or the refusal
 unfoldable pub write_of : Parameters → List ℕ → List ℕ → ℕ → WriteResult
-write_of p image input room = unless Refused (write_conditions p image input room) (Written (length (file_of p image input)))
-
--- the number of a refusal, 0 where there is none
-abbrev pub write_refusal : WriteResult → ℕ
-write_refusal (Written n) = 0
-write_refusal (Refused n) = n
+write_of p image input room = unless WriteRefused (write_conditions p image input room) (Written (length (file_of p image input)))
 
 -- the buffer after that answer: the file at its front and the rest left, or all of it left
 abbrev pub buffer_after : WriteResult → List ℕ → List ℕ → List ℕ
 buffer_after (Written n) file d = file ++ drop n d
-buffer_after (Refused n) file d = d
+buffer_after (WriteRefused n) file d = d
 
 -- what the buffer d holds after the writing
 abbrev pub written_buffer : Parameters → List ℕ → List ℕ → List ℕ → List ℕ

@@ -1,24 +1,39 @@
 // Records: a two-byte mark, a two-byte length, a body.
 ghost use Rattle.std.specs.Prelude.{◌≡◌, ◌+◌, ◌≤◌, ◌<◌, length};
 ghost use Rattle.slices.specs.Slices.{copied};
-ghost use Rattle.pattern.specs.Frame.{frame_length, record_of, body_length, body_of, record_length, behind_record, has_frame, has_frame_of_length};
+ghost use Rattle.pattern.specs.Frame.{frame_length, mark_number, record_of, body_length, body_of, record_length, behind_record, has_frame, has_frame_of_length};
 
 use slices::{byte, copy, part, put_u16, rest, u16_at};
 
-// What `PV` holds: the form, of a file in which nothing is locked and of one with a locked length, and the board.
-pub(crate) const PLAIN_FORM: u8 = 1;
+// A record's mark: `P`, and this byte.
+#[derive(Clone, Copy, Debug, PartialEq, Eq)]
+pub(crate) enum Mark {
+    Version = b'V' as isize,
+    Parameters = b'B' as isize,
+    Code = b'C' as isize,
+    Input = b'I' as isize,
+    End = b'E' as isize,
+}
 
-pub(crate) const LOCKED_FORM: u8 = 2;
+impl Mark {
+    fn byte(self) -> u8
+        ensures { result ≡ mark_number self }
+    {
+        self as u8
+    }
+}
 
+// What `PV` holds behind the form.
 pub(crate) const BOARD: u8 = 1;
 
-// How many bytes that is.
+// How many bytes the body of `PV` has.
 pub(crate) const VERSION_LENGTH: usize = 2;
 
 // How many bytes stand in front of a body.
 pub(crate) const FRAME_LENGTH: usize = 4;
 
 // The length that the record at the front of `s` gives its body.
+#[tactic(auto, unfolding(crate::specs::Frame::body_length))]
 pub(crate) fn body_length(s: &[u8]) -> u16
     ensures { result ≡ body_length s.now }
 {
@@ -26,6 +41,7 @@ pub(crate) fn body_length(s: &[u8]) -> u16
 }
 
 // The body of the record at the front of `s`.
+#[tactic(auto, unfolding(crate::specs::Frame::body_of))]
 pub(crate) fn body(s: &[u8]) -> &[u8]
     ensures { result.now ≡ body_of s.now }
 {
@@ -41,36 +57,48 @@ pub(crate) fn record_length(s: &[u8]) -> usize
 }
 
 // What follows the record at the front of `s`.
+#[tactic(auto, unfolding(crate::specs::Frame::behind_record))]
 pub(crate) fn behind_record(s: &[u8]) -> &[u8]
     ensures { result.now ≡ behind_record s.now }
 {
     rest(s, record_length(s))
 }
 
-// Whether the record at the front of `s` has the mark `P` and `mark`, and its body is inside `s`.
-pub(crate) fn has_frame(s: &[u8], mark: u8) -> bool
-    ensures { result ≡ has_frame mark s.now }
+// Whether the record at the front of `s` has that mark, and its body is inside `s`.
+#[tactic(auto, unfolding(crate::specs::Frame::has_frame, common::specs::Tests::and_all))]
+pub(crate) fn has_frame(s: &[u8], mark: Mark) -> bool
+    ensures { result ≡ has_frame (mark_number mark) s.now }
 {
-    (byte(s, 0) == b'P') & (byte(s, 1) == mark) & (record_length(s) <= s.len())
+    (byte(s, 0) == b'P') & (byte(s, 1) == mark.byte()) & (record_length(s) <= s.len())
 }
 
 // The same, with a body of `n` bytes.
-pub(crate) fn has_frame_of_length(s: &[u8], mark: u8, n: usize) -> bool
-    ensures { result ≡ has_frame_of_length mark n s.now }
+pub(crate) fn has_frame_of_length(s: &[u8], mark: Mark, n: usize) -> bool
+    ensures { result ≡ has_frame_of_length (mark_number mark) n s.now }
 {
     has_frame(s, mark) & (body_length(s) as usize == n)
 }
 
-// Writes the record of `P` and `mark` with `body` into `buffer` from `at` on, and answers where it ends.
-pub(crate) fn put_record(mark: u8, body: &[u8], buffer: &mut [u8], at: usize) -> usize
-    requires body_len_bound { length body.now < 65536 }
-    requires body_in_bounds { at + frame_length + length body.now ≤ length buffer.old }
-    ensures value { result ≡ at + frame_length + length body.now }
-    ensures buffer_after { buffer.new ≡ copied buffer.old at (record_of mark body.now) }
-{
-    let marks = [b'P', mark];
-    copy(buffer, at, &marks);
-    put_u16(buffer, at + 2, body.len() as u16);
-    copy(buffer, at + FRAME_LENGTH, body);
-    at + FRAME_LENGTH + body.len()
+// Writes records into a buffer, one behind the other: the next one starts at `at`.
+#[derive(Drop)]
+pub(crate) struct RecordWriter<'a> {
+    pub(crate) buffer: &'a mut [u8],
+    pub(crate) at: usize,
+}
+
+impl RecordWriter<'_> {
+    // Writes the record of that mark with `body`.
+    pub(crate) fn put(&mut self, mark: Mark, body: &[u8])
+        requires body_len_bound { length body.now < 65536 }
+        requires body_in_bounds { self.old.at + frame_length + length body.now ≤ length self.old.buffer.now }
+        ensures same_buffer { self.new.buffer.ghost_name ≡ self.old.buffer.ghost_name }
+        ensures buffer_len { length self.new.buffer.now ≡ length self.old.buffer.now }
+        ensures at_after { self.new.at ≡ self.old.at + frame_length + length body.now }
+        ensures buffer_after { self.new.buffer.now ≡ copied self.old.buffer.now self.old.at (record_of (mark_number mark) body.now) }
+    {
+        copy(self.buffer, self.at, &[b'P', mark.byte()]);
+        put_u16(self.buffer, self.at + 2, body.len() as u16);
+        copy(self.buffer, self.at + FRAME_LENGTH, body);
+        self.at += FRAME_LENGTH + body.len();
+    }
 }

@@ -9,5 +9,5 @@ mod reader;
 mod writer;
 
 pub use parameters::{Parameters, decode_parameters, encode_parameters};
-pub use reader::{ReadResult, code_body, code_offset, input_body, input_offset, read};
-pub use writer::{WriteResult, write};
+pub use reader::{code_body, code_offset, input_body, input_offset, read};
+pub use writer::write;

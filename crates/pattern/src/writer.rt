@@ -1,53 +1,23 @@
 // Writing a pattern file to the front of a lent buffer.
 ghost use Rattle.std.specs.Prelude.{◌≡◌, ◌+◌, ◌≤◌, ◌<◌, length};
 ghost use Rattle.slices.specs.Slices.{copied};
-ghost use Rattle.pattern.specs.Parameters.{form_of, parameters_length, parameters_body};
-ghost use Rattle.pattern.specs.Frame.{frame_length, record_of};
-ghost use Rattle.pattern.specs.Writer.{smallest_length, records_of, write_of, written_buffer, write_refusal};
+ghost use Rattle.pattern.specs.Parameters.{form_number, form_of};
+ghost use Rattle.pattern.specs.Writer.{write_result, smallest_length, records_of, write_of, written_buffer};
 
-use crate::frame::{BOARD, FRAME_LENGTH, VERSION_LENGTH, put_record};
+use crate::frame::{BOARD, FRAME_LENGTH, Mark, RecordWriter, VERSION_LENGTH};
 use crate::image::trim;
-use crate::parameters::{Parameters, encode_parameters, form_of, is_in_range, parameters_length};
+use crate::parameters::{
+    Form, Parameters, encode_parameters, form_of, is_in_range, parameters_length,
+};
+use common::Refusal;
 use slices::front;
 
-// The length of the written file, or the number of the refusal.
-#[derive(Clone, Copy)]
-pub enum WriteResult {
-    Written(usize),
-    Refused(u8),
-}
-
-impl WriteResult {
-    // The number of the refusal, 0 for none.
-    pub fn refusal(self) -> u8
-        ensures { result ≡ write_refusal self }
-    {
-        match self {
-            WriteResult::Written(_) => 0,
-            WriteResult::Refused(refusal) => refusal,
-        }
-    }
-}
-
 // The length of the smallest file of that form: all but the bodies of `PC` and `PI`.
-fn smallest_length(form: u8) -> usize
-    ensures value { result ≡ smallest_length form }
+fn smallest_length(form: Form) -> usize
+    ensures value { result ≡ smallest_length (form_number form) }
     ensures upper_bound { result ≤ 33 }
 {
     5 * FRAME_LENGTH + VERSION_LENGTH + parameters_length(form)
-}
-
-// Writes the record `PB` into `buffer` from `at` on, and answers where it ends.
-fn put_parameters(parameters: Parameters, buffer: &mut [u8], at: usize) -> usize
-    requires { at + frame_length + parameters_length (form_of parameters) ≤ length buffer.old }
-    ensures value { result ≡ at + frame_length + parameters_length (form_of parameters) }
-    ensures buffer_after { buffer.new ≡ copied buffer.old at (record_of 0x42 (parameters_body parameters)) }
-{
-    let form = form_of(parameters);
-    let bytes = encode_parameters(parameters);
-    // In form 1 without the locked length.
-    let body = front(&bytes, parameters_length(form));
-    put_record(b'B', body, buffer, at)
 }
 
 // Writes the five records to the front of `buffer`.
@@ -58,34 +28,42 @@ fn put_records(parameters: Parameters, code: &[u8], input: &[u8], buffer: &mut [
     ensures { buffer.new ≡ copied buffer.old 0 (records_of parameters code.now input.now) }
 {
     let form = form_of(parameters);
-    let version = [form, BOARD];
-    let parameters_at = put_record(b'V', &version, buffer, 0);
-    let code_at = put_parameters(parameters, buffer, parameters_at);
-    let input_at = put_record(b'C', code, buffer, code_at);
-    let end_at = put_record(b'I', input, buffer, input_at);
-    put_record(b'E', b"", buffer, end_at);
+    let bytes = encode_parameters(parameters);
+    let mut records = RecordWriter { buffer, at: 0 };
+    records.put(Mark::Version, &[form.number(), BOARD]);
+    // In form 1 without the locked length.
+    records.put(Mark::Parameters, front(&bytes, parameters_length(form)));
+    records.put(Mark::Code, code);
+    records.put(Mark::Input, input);
+    records.put(Mark::End, &[]);
 }
 
 // Writes the file of a pattern to the front of `buffer`, and leaves the rest; a refusal leaves all of it.
-pub fn write(parameters: Parameters, image: &[u8], input: &[u8], buffer: &mut [u8]) -> WriteResult
-    ensures { (result ≡ write_of parameters image.now input.now (length buffer.old)) × (buffer.new ≡ written_buffer parameters image.now input.now buffer.old) }
+#[tactic(auto, using(crate::specs::WriterLaws::file_length, crate::specs::ImageLaws::trim_short), unfolding(crate::specs::FileDefinitions::write_definitions))]
+pub fn write(
+    parameters: Parameters,
+    image: &[u8],
+    input: &[u8],
+    buffer: &mut [u8],
+) -> Result<usize, Refusal>
+    ensures { (write_result result ≡ write_of parameters image.now input.now (length buffer.old)) × (buffer.new ≡ written_buffer parameters image.now input.now buffer.old) }
 {
     if !is_in_range(parameters) {
-        return WriteResult::Refused(9);
+        return Err(Refusal::Values);
     }
     let layout = parameters.layout;
     if image.len() != layout.window as usize {
-        return WriteResult::Refused(9);
+        return Err(Refusal::Values);
     }
     if (layout.input as usize) < input.len() {
-        return WriteResult::Refused(11);
+        return Err(Refusal::Input);
     }
     let form = form_of(parameters);
     let code = trim(image);
     let total = smallest_length(form) + code.len() + input.len();
     if buffer.len() < total {
-        return WriteResult::Refused(16);
+        return Err(Refusal::Short);
     }
     put_records(parameters, code, input, buffer);
-    WriteResult::Written(total)
+    Ok(total)
 }

@@ -1,17 +1,17 @@
--- Extents in an array: one put behind the others, what is left of them without a partition, how many there are, and the best of them.
-use Prim.Native.Nat.{ℕ, zero, suc, ◌+◌, ◌-◌, ◌≤◌, ◌<◌, max, min}
-use lib.ListN.{length, get_or, take, drop, set, length-append, drop_of_length-le}
-use lib.Seq.{drop-cons, get_or-take, length-take-le, take-suc, take-suc-set, take-add}
+-- Lists of extents: what is left of them without a partition, how many there are, and the best of them.
+use Prim.Native.Nat.{ℕ, zero, suc, ◌+◌, ◌≤◌, ◌<◌, max, min}
+use Rattle.std.proofs.Common.{fold, take-append-drop}
+use lib.ListN.{length, get_or, take, drop, length-append}
+use lib.Seq.{take-suc}
 use mathlib.Core.Bool.{Bool, true, false}
 use mathlib.Core.List.{List, [], ◌∷◌, ◌++◌, append_assoc, append-nil}
 use mathlib.Core.Path.{◌≡◌, refl, sym, ap, ◌∙◌}
 use native.Mathlib.Decide.{dec_lt}
 use native.Mathlib.Numerals.{add-one}
 use native.Mathlib.Omega.{arith}
-use borrow.Author.Tests.{lt-ltb}
 use Rattle.common.specs.Choice.{when◌then◌else◌}
 use Rattle.table.specs.ExtentLaws.{extent_few, extent_none}
-use Rattle.table.specs.Extents.{extent, empty_extent, extent_between, lower_part, upper_part, without_partition, each_without, without_slots_below}
+use Rattle.table.specs.Extents.{lower_part, upper_part, without_partition, each_without, without_slots_below}
 use Rattle.table.proofs.ExtentsTheorem.{below_rises}
 use Rattle.queries.specs.FitQuery.{fits_better, best_of}
 use Rattle.table.specs.FreeExtentsListed.{RisesFrom}
@@ -20,28 +20,6 @@ use Rattle.table.specs.Table.{is_loaded, partition_end, slot_at}
 use Rattle.table.specs.declared.extents.Extent.{Extent}
 use Rattle.table.specs.declared.table.Partition.{Partition}
 use Rattle.table.specs.declared.table.Table.{Table}
-
--- ---- one put behind the others
-
-module _ (extents : List Extent) (count start end : ℕ) where
-  pub pushed_none : end ≤ start → take count extents ≡ take count extents ++ extent_between start end
-  pushed_none h = sym (ap (λ (l : List Extent). take count extents ++ l) (extent_none start end h) ∙ append-nil (take count extents))
-
-  module _ (some : start < end) where
-    extent_one : extent_between start end ≡ extent start end ∷ []
-    unfolding extent_between when◌then◌else◌
-    extent_one = rw (lt-ltb start end some) refl
-
-    -- there is room for it
-    pub push_room : count ≤ length extents → length (take count extents ++ extent_between start end) ≤ length extents → count < length extents
-    push_room q h =
-        omega (arith, length-append (take count extents) (extent_between start end), length-take-le count extents q, ap length extent_one)
-
-    pub pushed_one : count < length extents → take (count + 1) (set extents count (extent start end)) ≡ take count extents ++ extent_between start end
-    pushed_one q =
-        ap (λ (n : ℕ). take n (set extents count (extent start end))) (add-one count)
-        ∙ take-suc-set extents count (extent start end) q
-        ∙ sym (ap (λ (l : List Extent). take count extents ++ l) extent_one)
 
 -- ---- what is left of the extents without a partition
 
@@ -55,16 +33,7 @@ module _ (p : Partition) where
   unfolding each_without
   each_one e = append-nil (without_partition p e)
 
-  -- of one extent, first what lies below the partition, then what lies above it
-  module _ (before lower : List Extent) (e : Extent) (first : lower ≡ before ++ lower_part p e) where
-    pub parts_put : (after : List Extent) → after ≡ lower ++ upper_part p e → after ≡ before ++ without_partition p e
-    unfolding without_partition
-    parts_put after second = second ∙ ap (λ (l : List Extent). l ++ upper_part p e) first ∙ append_assoc before (lower_part p e) (upper_part p e)
-
-    pub upper_room : length (before ++ without_partition p e) ≤ 9 → length (lower ++ upper_part p e) ≤ 9
-    unfolding without_partition
-    upper_room h = omega (arith, ap length (ap (λ (l : List Extent). l ++ upper_part p e) first ∙ append_assoc before (lower_part p e) (upper_part p e)))
-
+  -- there is room for what lies below the partition
   pub lower_room : (before : List Extent) (e : Extent) → length (before ++ without_partition p e) ≤ 9 → length (before ++ lower_part p e) ≤ 9
   unfolding without_partition
   lower_room before e h =
@@ -75,8 +44,8 @@ module _ (p : Partition) where
         length-append before (lower_part p e),
       )
 
-  -- of the first `count` extents, those before the i-th are done
-  module _ (extents : List Extent) (count i : ℕ) (inside : count ≤ length extents) (q : i < count) (d : Extent) where
+  -- those before the i-th are done
+  module _ (extents : List Extent) (i : ℕ) (q : i < length extents) (d : Extent) where
     pub each_more : each_without p (take (i + 1) extents) ≡ each_without p (take i extents) ++ without_partition p (get_or extents i d)
     each_more =
         ap (λ (n : ℕ). each_without p (take n extents)) (add-one i)
@@ -84,18 +53,15 @@ module _ (p : Partition) where
         ∙ each_append (take i extents) (get_or extents i d ∷ [])
         ∙ ap (λ (r : List Extent). each_without p (take i extents) ++ r) (each_one (get_or extents i d))
 
-    pub each_room : length (each_without p (take count extents)) ≤ 9 → length (each_without p (take i extents) ++ without_partition p (get_or extents i d)) ≤ 9
+    pub each_room : length (each_without p extents) ≤ 9 → length (each_without p (take i extents) ++ without_partition p (get_or extents i d)) ≤ 9
     each_room h =
         omega (
           arith,
           ap length (sym each_more),
-          ap (λ (l : List Extent). length (each_without p l)) (whole ∙ take-add (i + 1) (count - (i + 1)) extents),
-          ap length (each_append (take (i + 1) extents) (take (count - (i + 1)) (drop (i + 1) extents))),
-          length-append (each_without p (take (i + 1) extents)) (each_without p (take (count - (i + 1)) (drop (i + 1) extents))),
+          ap (λ (l : List Extent). length (each_without p l)) (sym (take-append-drop (i + 1) extents)),
+          ap length (each_append (take (i + 1) extents) (drop (i + 1) extents)),
+          length-append (each_without p (take (i + 1) extents)) (each_without p (drop (i + 1) extents)),
         )
-      where
-        whole : take count extents ≡ take (i + 1 + (count - (i + 1))) extents
-        whole = let n : count ≡ i + 1 + (count - (i + 1)) = omega arith in ap (λ (m : ℕ). take m extents) n
 
   -- ---- how many there are: a partition splits at most one extent
 
@@ -150,26 +116,14 @@ below_few t sound (suc n) q = go (is_loaded t n) (below_few t sound n (omega ari
     go true further = omega (arith, each_few (slot_at t n).partition 0 (without_slots_below t n) (below_rises t sound n (omega arith)))
     go false further = omega arith
 
+-- and those without the next partition are at most nine
 pub below_room : (t : Table) → SlotsSound t → (n : ℕ) (l : List Extent) → n < 8 → l ≡ without_slots_below t n → is_loaded t n ≡ true → length (each_without (slot_at t n).partition l) ≤ 9
 below_room t sound n l q e h = omega (arith, ap length (below_taken t n l e h), below_few t sound (n + 1) (omega arith))
 
 -- ---- the best of them
 
-module _ (size : ℕ) (extents : List Extent) (count i : ℕ) (best : Extent) where
-  -- the best of what is left, after the best so far, is the best of all
-  abbrev pub BestSoFar : Type 0
-  BestSoFar = best_of size best (drop i (take count extents)) ≡ best_of size empty_extent (take count extents)
-
-  module _ (inside : count ≤ length extents) where
-    pub best_more : (d next : Extent) → i < count → BestSoFar → next ≡ (when fits_better size (get_or extents i d) best then get_or extents i d else best) → best_of size next (drop (i + 1) (take count extents)) ≡ best_of size empty_extent (take count extents)
-    unfolding best_of
-    best_more d next q h e =
-        let split : drop i (take count extents) ≡ get_or extents i d ∷ drop (i + 1) (take count extents) =
-        drop-cons (take count extents) i d (omega (arith, length-take-le count extents inside))
-        ∙ (λ j. get_or-take count extents i d q j ∷ drop (sym (add-one i) j) (take count extents))
-        in
-        ap (λ (b : Extent). best_of size b (drop (i + 1) (take count extents))) e ∙ sym (ap (best_of size best) split) ∙ h
-
-    pub best_done : count ≤ i → BestSoFar → best ≡ best_of size empty_extent (take count extents)
-    unfolding best_of
-    best_done q h = ap (best_of size best) (sym (drop_of_length-le (take count extents) {i = i} (omega (arith, length-take-le count extents inside)))) ∙ h
+-- the best of a list is found from the front on
+pub best_fold : (size : ℕ) (best : Extent) (l : List Extent) → fold (λ b e. when fits_better size e b then e else b) best l ≡ best_of size best l
+unfolding best_of
+best_fold size best [] = refl
+best_fold size best (e ∷ rest) = best_fold size (when fits_better size e best then e else best) rest

@@ -4,7 +4,7 @@ use Rattle.std.specs.Prelude.{ℕ, ◌≤◌, ◌<◌, ◌≢◌, ◌≡◌}
 use Rattle.table.specs.Extents.{extent_size}
 use Rattle.table.specs.FreeExtentsListed.{IsFreeExtent}
 use Rattle.table.specs.declared.extents.Extent.{Extent}
-use Rattle.queries.specs.declared.fit_query.FitAnswer.{FitAnswer}
+use Rattle.queries.specs.Queries.{FitAnswer}
 use Rattle.table.specs.declared.table.Table.{Table}
 
 -- the best fit for a size: a free extent that holds it. None that holds it is shorter, and none of equal length starts lower

@@ -10,7 +10,7 @@ use Rattle.common.specs.ConditionDefinitions.{condition_definitions}
 use Rattle.common.specs.Layout.{layout_size}
 use Rattle.common.specs.Refusals.{◌gives◌, unless}
 use Rattle.common.specs.TestLaws.{one_to_fact, one_to_test}
-use Rattle.queries.specs.Queries.{query_conditions, fit_answer, fit_of}
+use Rattle.queries.specs.Queries.{FitAnswer, query_conditions, fit_answer, fit_of}
 use Rattle.table.specs.TableConditions.{table_conditions}
 use Rattle.table.specs.Extents.{empty_extent, extent_size, free_extents, widest_extent}
 use Rattle.table.proofs.ExtentsTheorem.{extent_apart, free_extents_listed}
@@ -23,7 +23,6 @@ use Rattle.table.specs.Sound.{is_clear_of_others, table_sound}
 use Rattle.table.specs.SoundLaws.{SlotsSound, table_fact, Apart, apart_below, apart_behind, clear_test}
 use Rattle.table.specs.Table.{partition_end, slot_at}
 use Rattle.table.specs.declared.extents.Extent.{Extent}
-use Rattle.queries.specs.declared.fit_query.FitAnswer.{FitAnswer}
 use Rattle.table.specs.declared.table.Partition.{Partition}
 use Rattle.table.specs.declared.table.Table.{Table}
 

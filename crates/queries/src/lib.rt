@@ -7,7 +7,7 @@ mod fit_query;
 mod reported;
 mod reporting;
 
-pub use backlog_query::{BacklogAnswer, backlog};
-pub use fit_query::{FitAnswer, fit};
+pub use backlog_query::backlog;
+pub use fit_query::fit;
 pub use reported::Report;
 pub use reporting::report;

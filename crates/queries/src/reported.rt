@@ -1,7 +1,6 @@
-// What is reported of a slot: document 01's status, counter, registers, PSU with Sense and PSL; and the refusal, 0 for none.
-#[derive(Clone, Copy)]
+// What is reported of a slot: document 01's status, counter, registers, PSU with Sense and PSL. The status is the number in the table.
+#[derive(Clone, Copy, Debug, PartialEq, Eq)]
 pub struct Report {
-    pub refusal: u8,
     pub status: u8,
     pub counter: u16,
     pub registers: [u8; 7],

@@ -3,6 +3,9 @@ use mathlib.Core.Path.{◌≡◌, refl, sym, ap, ◌∙◌}
 use Prim.Native.Nat.{ℕ, zero, suc, ◌+◌, ◌*◌, ◌/◌, ◌%◌, ◌-◌, ◌<◌, ◌≤◌, ◌^◌}
 use native.Mathlib.Omega.{arith}
 use lib.Bits.{bit_xor, differ, xor_step, xor_lt, xor_block, xor_zero_r}
+use Rattle.std.proofs.Math.Nat.{div-add-mod, mod-lt, mod-eq_of_lt, mul-lt-mul_of_pos_right, one-le-pow}
+use Rattle.std.proofs.Math.Pow.{pow_mono}
+use Rattle.std.proofs.lemmas.Nat.{pow-add}
 
 differ_bit : (x y : ℕ) → x < 2 → y < 2 → differ x y < 2
 differ_bit zero y p q = q
@@ -48,36 +51,20 @@ xor_middle j k h o v l p q r =
     ∙ ap (λ (y : ℕ). y * 2 ^ k + bit_xor l 0) (two ∙ ap (λ (y : ℕ). y * 2 ^ j + bit_xor o (bit_xor o v)) (xor_zero_r h) ∙ ap (λ (y : ℕ). h * 2 ^ j + y) four)
     ∙ ap (λ (y : ℕ). (h * 2 ^ j + v) * 2 ^ k + y) (xor_zero_r l)
 
-xor_part : (j k x v : ℕ) → v < 2 ^ j → x / 2 ^ k % 2 ^ j < 2 ^ j → x % 2 ^ k < 2 ^ k → (x / 2 ^ k / 2 ^ j * 2 ^ j + x / 2 ^ k % 2 ^ j) * 2 ^ k + x % 2 ^ k ≡ x → (y : ℕ) → (x / 2 ^ k / 2 ^ j * 2 ^ j + v) * 2 ^ k + x % 2 ^ k ≡ y → (d : ℕ) → bit_xor (x / 2 ^ k % 2 ^ j) v * 2 ^ k + 0 ≡ d → bit_xor x d ≡ y
-xor_part j k x v p q r e y f d g =
-    ap (λ (z : ℕ). bit_xor z d) (sym e) ∙ ap (λ (z : ℕ). bit_xor ((x / 2 ^ k / 2 ^ j * 2 ^ j + x / 2 ^ k % 2 ^ j) * 2 ^ k + x % 2 ^ k) z) (sym g) ∙ xor_middle j k (x / 2 ^ k / 2 ^ j) (x / 2 ^ k % 2 ^ j) v (x % 2 ^ k) q p r ∙ f
-
-pub set_byte_law : (x i v : ℕ) → i < 4 → v < 256 → bit_xor x (bit_xor (x / 2 ^ (8 * i) % 256) v * 2 ^ (8 * i) % 2 ^ 64) ≡ x - x / 2 ^ (8 * i) % 256 * 2 ^ (8 * i) + v * 2 ^ (8 * i)
-set_byte_law x zero v l b =
-    let w : bit_xor (x / 2 ^ 0 % 256) v < 256 = xor_lt 8 (x / 2 ^ 0 % 256) v (omega arith) b in
-    xor_part 8 0 x v b (omega arith) (omega arith) (omega arith) _ (omega arith) _ (omega arith)
-set_byte_law x (suc zero) v l b =
-    let w : bit_xor (x / 2 ^ 8 % 256) v < 256 = xor_lt 8 (x / 2 ^ 8 % 256) v (omega arith) b in
-    xor_part 8 8 x v b (omega arith) (omega arith) (omega arith) _ (omega arith) _ (omega arith)
-set_byte_law x (suc (suc zero)) v l b =
-    let w : bit_xor (x / 2 ^ 16 % 256) v < 256 = xor_lt 8 (x / 2 ^ 16 % 256) v (omega arith) b in
-    xor_part 8 16 x v b (omega arith) (omega arith) (omega arith) _ (omega arith) _ (omega arith)
-set_byte_law x (suc (suc (suc zero))) v l b =
-    let w : bit_xor (x / 2 ^ 24 % 256) v < 256 = xor_lt 8 (x / 2 ^ 24 % 256) v (omega arith) b in
-    xor_part 8 24 x v b (omega arith) (omega arith) (omega arith) _ (omega arith) _ (omega arith)
-set_byte_law x (suc (suc (suc (suc i)))) v l b = absurd (omega arith)
-
-pub set_quarter_law : (x i v : ℕ) → i < 4 → v < 65536 → bit_xor x (bit_xor (x / 2 ^ (16 * i) % 65536) v * 2 ^ (16 * i) % 2 ^ 64) ≡ x - x / 2 ^ (16 * i) % 65536 * 2 ^ (16 * i) + v * 2 ^ (16 * i)
-set_quarter_law x zero v l b =
-    let w : bit_xor (x / 2 ^ 0 % 65536) v < 65536 = xor_lt 16 (x / 2 ^ 0 % 65536) v (omega arith) b in
-    xor_part 16 0 x v b (omega arith) (omega arith) (omega arith) _ (omega arith) _ (omega arith)
-set_quarter_law x (suc zero) v l b =
-    let w : bit_xor (x / 2 ^ 16 % 65536) v < 65536 = xor_lt 16 (x / 2 ^ 16 % 65536) v (omega arith) b in
-    xor_part 16 16 x v b (omega arith) (omega arith) (omega arith) _ (omega arith) _ (omega arith)
-set_quarter_law x (suc (suc zero)) v l b =
-    let w : bit_xor (x / 2 ^ 32 % 65536) v < 65536 = xor_lt 16 (x / 2 ^ 32 % 65536) v (omega arith) b in
-    xor_part 16 32 x v b (omega arith) (omega arith) (omega arith) _ (omega arith) _ (omega arith)
-set_quarter_law x (suc (suc (suc zero))) v l b =
-    let w : bit_xor (x / 2 ^ 48 % 65536) v < 65536 = xor_lt 16 (x / 2 ^ 48 % 65536) v (omega arith) b in
-    xor_part 16 48 x v b (omega arith) (omega arith) (omega arith) _ (omega arith) _ (omega arith)
-set_quarter_law x (suc (suc (suc (suc i)))) v l b = absurd (omega arith)
+-- part o of w bits, k bits above the lowest, becomes v
+pub set_part_law : (w k x v o : ℕ) → w + k ≤ 64 → v < 2 ^ w → o ≡ x / 2 ^ k % 2 ^ w → bit_xor x (bit_xor o v * 2 ^ k % 2 ^ 64) ≡ x - x / 2 ^ k % 2 ^ w * 2 ^ k + v * 2 ^ k
+set_part_law w k x v o s l f =
+    let h : ℕ = x / 2 ^ k / 2 ^ w in
+    let low : ℕ = x % 2 ^ k in
+    let p : o < 2 ^ w = rw f (mod-lt (x / 2 ^ k) (omega (arith, l))) in
+    let q : 0 < 2 ^ k = one-le-pow k 2 (omega arith) in
+    let r : low < 2 ^ k = mod-lt x q in
+    let e : (h * 2 ^ w + o) * 2 ^ k + low ≡ x = grind (arith, div-add-mod x (2 ^ k), div-add-mod (x / 2 ^ k) (2 ^ w), f) in
+    let a : bit_xor o v * 2 ^ k < 2 ^ w * 2 ^ k = mul-lt-mul_of_pos_right (xor_lt w o v p l) q in
+    let m : 2 ^ (w + k) ≤ 2 ^ 64 = pow_mono s in
+    let small : bit_xor o v * 2 ^ k < 2 ^ 64 = omega (arith, a, pow-add 2 w k, m) in
+    let d : bit_xor o v * 2 ^ k % 2 ^ 64 ≡ bit_xor o v * 2 ^ k + 0 = mod-eq_of_lt small ∙ omega arith in
+    ap (λ (z : ℕ). bit_xor x z) d
+    ∙ ap (λ (z : ℕ). bit_xor z (bit_xor o v * 2 ^ k + 0)) (sym e)
+    ∙ xor_middle w k h o v low p l r
+    ∙ grind (arith, e, f)

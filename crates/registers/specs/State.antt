@@ -3,6 +3,20 @@
 use Rattle.std.specs.Prelude.{ℕ}
 use Rattle.registers.specs.declared.cpu.Cpu.{Cpu}
 use Rattle.registers.specs.declared.state.State.{State}
+use Rattle.registers.specs.declared.state.Status.{Status}
+use Rattle.registers.specs.declared.state.Status.TheVariants.{Empty, Running, Halted, WantsInput, OutputFull, Unknown, Outside, Port, Locked}
+
+-- the number of each status (document 01, "Status of a station"; document 02, U6)
+abbrev pub status_number : Status → ℕ
+status_number Empty = 0
+status_number Running = 1
+status_number Halted = 2
+status_number WantsInput = 3
+status_number OutputFull = 4
+status_number Unknown = 5
+status_number Outside = 6
+status_number Port = 7
+status_number Locked = 8
 
 -- the last of document 01's statuses, and of document 02's
 abbrev pub last_status : ℕ

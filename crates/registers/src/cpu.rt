@@ -6,7 +6,7 @@ use common::Address;
 
 // The machine's registers, as they are kept between runs (document 01's machine).
 // Registers: R0, R1 to R3 of bank 0, R1 to R3 of bank 1. PSU is stored without Sense.
-#[derive(Clone, Copy)]
+#[derive(Clone, Copy, Debug, PartialEq, Eq)]
 pub struct Cpu {
     pub counter: u16,
     pub registers: [u8; 7],
@@ -17,6 +17,7 @@ pub struct Cpu {
 
 impl Cpu {
     // Before its first instruction, at `start`.
+    #[tactic(auto, unfolding(crate::specs::CpuDefinitions::cpu_definitions))]
     pub fn fresh(start: Address) -> Cpu
         ensures { result ≡ fresh_cpu start }
     {

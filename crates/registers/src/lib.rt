@@ -7,10 +7,6 @@ mod cpu;
 mod packed_cpu;
 mod state;
 
-pub use alu_results::{adjust, load, operate, rotate_left, rotate_right, test};
 pub use cpu::{Cpu, stored_psu};
-pub use packed_cpu::{
-    PackedCpu, call, counter, pack, psl, psu, register, return_from_call, unpack, with_counter,
-    with_psl, with_psu, with_register,
-};
-pub use state::State;
+pub use packed_cpu::PackedCpu;
+pub use state::{State, Status};

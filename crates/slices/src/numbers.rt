@@ -29,24 +29,18 @@ pub fn u32_at(s: &[u8], at: usize) -> u32
 pub fn put_u16(target: &mut [u8], at: usize, n: u16)
     ensures { target.new ≡ copied target.old at (u16_bytes n) }
 {
-    let bytes = [(n / 256) as u8, (n % 256) as u8];
-    copy(target, at, &bytes);
+    copy(target, at, &n.to_be_bytes());
 }
 
 // Puts a number into the four bytes from `at` on, likewise.
 pub fn put_u32(target: &mut [u8], at: usize, n: u32)
     ensures { target.new ≡ copied target.old at (u32_bytes n) }
 {
-    let bytes = [
-        (n / 65536 / 256) as u8,
-        (n / 65536 % 256) as u8,
-        (n % 65536 / 256) as u8,
-        (n % 65536 % 256) as u8,
-    ];
-    copy(target, at, &bytes);
+    copy(target, at, &n.to_be_bytes());
 }
 
 // Puts numbers one behind the other, each into two bytes: all of them, or none where they would pass the end.
+#[tactic(auto, using(crate::specs::SliceLaws::copied_left, crate::specs::NumberLaws::u16s_length))]
 pub fn put_u16s(target: &mut [u8], at: usize, numbers: &[u16])
     ensures { target.new ≡ copied target.old at (u16s_bytes numbers.now) }
 {
@@ -56,9 +50,7 @@ pub fn put_u16s(target: &mut [u8], at: usize, numbers: &[u16])
     if (target.len() - at) / 2 < numbers.len() {
         return;
     }
-    let mut i = 0;
-    while i < numbers.len() {
-        put_u16(target, at + 2 * i, numbers[i]);
-        i += 1;
+    for (i, n) in numbers.iter().enumerate() {
+        put_u16(target, at + 2 * i, *n);
     }
 }

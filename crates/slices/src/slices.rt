@@ -6,24 +6,21 @@ ghost use Rattle.slices.specs.Slices.{part_of, copied, filled_with};
 pub fn byte(s: &[u8], at: usize) -> u8
     ensures { result ≡ get_or s.now at 0 }
 {
-    if at < s.len() {
-        return s[at];
-    }
-    0
+    s.get(at).copied().unwrap_or(0)
 }
 
 // The part from `at` on, empty from the end on.
 pub fn rest(s: &[u8], at: usize) -> &[u8]
     ensures { result.now ≡ drop at s.now }
 {
-    if at <= s.len() { &s[at..] } else { &s[..0] }
+    s.get(at..).unwrap_or(&[])
 }
 
 // The first `n` bytes, or all of them where there are fewer.
 pub fn front(s: &[u8], n: usize) -> &[u8]
     ensures { result.now ≡ take n s.now }
 {
-    if n <= s.len() { &s[..n] } else { s }
+    s.get(..n).unwrap_or(s)
 }
 
 // The `n` bytes from `at` on, or as many as there are.
@@ -34,6 +31,7 @@ pub fn part(s: &[u8], at: usize, n: usize) -> &[u8]
 }
 
 // Copies `source` into `target` from `at` on: whole, or not at all where it would pass the end.
+#[tactic(auto, using(crate::specs::SliceLaws::copied_left, crate::proofs::StoreLaws::part_written))]
 pub fn copy(target: &mut [u8], at: usize, source: &[u8])
     ensures { target.new ≡ copied target.old at source.now }
 {
@@ -43,14 +41,11 @@ pub fn copy(target: &mut [u8], at: usize, source: &[u8])
     if target.len() - at < source.len() {
         return;
     }
-    let mut i = 0;
-    while i < source.len() {
-        target[at + i] = source[i];
-        i += 1;
-    }
+    target[at..at + source.len()].copy_from_slice(source);
 }
 
 // Puts `value` into the `n` bytes from `at` on: all of them, or none where they would pass the end.
+#[tactic(auto, using(crate::specs::SliceLaws::copied_left, crate::proofs::StoreLaws::part_written))]
 pub fn fill(target: &mut [u8], at: usize, n: usize, value: u8)
     ensures { target.new ≡ filled_with target.old at n value }
 {
@@ -60,11 +55,7 @@ pub fn fill(target: &mut [u8], at: usize, n: usize, value: u8)
     if target.len() - at < n {
         return;
     }
-    let mut i = 0;
-    while i < n {
-        target[at + i] = value;
-        i += 1;
-    }
+    target[at..at + n].fill(value);
 }
 
 // Puts a byte at `at`, and nothing from the end on.

@@ -9,3 +9,5 @@ pub mod AddressLaws
 pub mod OperandLaws
 pub mod ByteLaws
 pub mod PackedStepLaws
+-- Names for lists of definitions.
+pub mod OperandDefinitions

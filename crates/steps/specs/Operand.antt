@@ -1,13 +1,11 @@
 -- Definitions that must be believed: the operand of each addressing mode, and what is done with it (document 01, "The machine"; manual,
 -- "Addressing Modes"; document 02, U6).
-use Rattle.std.specs.Prelude.{ℕ, ◌+◌, ◌*◌, ◌/◌, ◌%◌, Bool, false, List, ◌==◌, nat_eq, nat_lt}
+use Rattle.std.specs.Prelude.{ℕ, ◌+◌, ◌*◌, ◌/◌, ◌%◌, Bool, false, List, Option, Some, None, ◌==◌, nat_eq, nat_lt}
 use Rattle.steps.specs.Address.{add_in_page, add_wrapping, fetch_of, if_fetched, if_resolved, pointer_of, resolve_of, relative_of}
 use Rattle.common.specs.Choice.{when◌then◌else◌}
 use Rattle.steps.specs.Result.{StepResult, Store, step_result, stopped_of, address_after, advanced_of, operated_of}
 use Rattle.registers.specs.Cpu.{counter_of, register_of, with_register}
 use Rattle.common.specs.declared.places.Address.{Address}
-use Rattle.steps.specs.declared.address.Resolved.{Resolved}
-use Rattle.steps.specs.declared.address.Resolved.TheVariants.{At, Outside}
 use Rattle.decode.specs.declared.decode.Mode.{Mode}
 use Rattle.decode.specs.declared.decode.Mode.TheVariants.{Register, Immediate, Relative, Absolute}
 use Rattle.decode.specs.declared.decode.Access.{Access}
@@ -32,10 +30,10 @@ index_value_of control v =
     else (when nat_eq control 2 then (v + 255) % 256 else v))
 
 -- the index is added within the page; after an indirect pointer it is added modulo 32,768
-unfoldable pub indexed_address_of : List ℕ → ℕ → Address → ℕ → Resolved
+unfoldable pub indexed_address_of : List ℕ → ℕ → Address → ℕ → Option Address
 indexed_address_of window indirect a i =
-    when indirect == 0 then At (add_in_page a i)
-    else if_resolved (pointer_of window a) Outside (λ p. At (add_wrapping p i))
+    when indirect == 0 then Some (add_in_page a i)
+    else if_resolved (pointer_of window a) None (λ p. Some (add_wrapping p i))
 
 -- thirteen bits of the instruction in its own page
 abbrev pub data_address_of : Cpu → ℕ → ℕ → Address

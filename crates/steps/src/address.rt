@@ -1,21 +1,11 @@
 // Addresses of fifteen bits in pages of 8,192, and reading through them.
+#![tactic(auto, unfolding(crate::specs::OperandDefinitions::address_definitions))]
+
 ghost use Rattle.std.specs.Prelude.{◌≡◌, ◌<◌};
 ghost use Rattle.std.specs.Int.Signed.{mag};
 ghost use Rattle.steps.specs.Address.{add_in_page, add_wrapping, address_of, fetch_of, pointer_of, resolve_of, displacement_of, displaced_of, relative_of};
 
 use common::Address;
-
-#[derive(Clone, Copy)]
-pub enum Fetched {
-    Byte(u8),
-    NoByte,
-}
-
-#[derive(Clone, Copy)]
-pub enum Resolved {
-    At(Address),
-    Outside,
-}
 
 pub(crate) fn add_in_page(a: Address, k: u8) -> Address
     ensures { result ≡ add_in_page a k }
@@ -35,35 +25,26 @@ pub fn address_of(high: u8, low: u8) -> Address
     Address(((high as u32 * 256 + low as u32) % 32768) as u16)
 }
 
-pub fn fetch(window: &[u8], a: Address) -> Fetched
+pub fn fetch(window: &[u8], a: Address) -> Option<u8>
     ensures { result ≡ fetch_of window.now a }
 {
-    let i = a.0 as usize;
-    if i < window.len() {
-        Fetched::Byte(window[i])
-    } else {
-        Fetched::NoByte
-    }
+    window.get(a.0 as usize).copied()
 }
 
-pub(crate) fn pointer(window: &[u8], a: Address) -> Resolved
+pub(crate) fn pointer(window: &[u8], a: Address) -> Option<Address>
     ensures { result ≡ pointer_of window.now a }
 {
-    let Fetched::Byte(high) = fetch(window, a) else {
-        return Resolved::Outside;
-    };
-    let Fetched::Byte(low) = fetch(window, add_in_page(a, 1)) else {
-        return Resolved::Outside;
-    };
-    let p = address_of(high, low);
-    Resolved::At(p)
+    let high = fetch(window, a)?;
+    let low = fetch(window, add_in_page(a, 1))?;
+    Some(address_of(high, low))
 }
 
-pub fn resolve(window: &[u8], indirect: u8, a: Address) -> Resolved
+// The indirect bit is the number that it is in the instruction: a caller may pass any.
+pub fn resolve(window: &[u8], indirect: u8, a: Address) -> Option<Address>
     ensures { result ≡ resolve_of window.now indirect a }
 {
     if indirect == 0 {
-        Resolved::At(a)
+        Some(a)
     } else {
         pointer(window, a)
     }

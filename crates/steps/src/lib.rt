@@ -6,7 +6,7 @@ mod address;
 mod operand;
 mod result;
 
-pub use address::{Fetched, Resolved, add_wrapping, address_of, fetch, relative, resolve};
+pub use address::{add_wrapping, address_of, fetch, relative, resolve};
 pub use operand::operate_on_operand;
 pub use result::{
     PackedEffect, PackedStep, address_after, advanced, running, running_after, step_result, stopped,

@@ -1,58 +1,54 @@
 // The operand of each addressing mode, and what is done with it.
-ghost use Rattle.std.specs.Prelude.{◌≡◌};
+#![tactic(auto, unfolding(crate::specs::OperandDefinitions::operand_definitions))]
+
+ghost use Rattle.std.specs.Prelude.{◌≡◌, Some};
 ghost use Rattle.registers.specs.PackedCpu.{cpu_of};
 ghost use Rattle.steps.specs.PackedStep.{step_result_of, operand_result_of};
 ghost use Rattle.decode.specs.Decode.{mode_length};
 ghost use Rattle.steps.specs.Operand.{index_value_of, indexed_address_of, data_address_of, data_register_of, stepped_index_of, register_operand_of, immediate_operand_of, relative_operand_of, absolute_operand_of, operand_of, operate_on_operand_of};
 
-use crate::address::{Fetched, Resolved};
 use crate::result::{PackedEffect, PackedStep};
 use crate::{address, result};
 use common::Address;
 use decode::{Access, Mode};
-use registers::PackedCpu;
+use registers::{PackedCpu, Status};
 
-// An operand: its byte, its address, the control bits (not 0 where R0 is the data), and the registers after the
-// instruction's own bytes. `data_register` makes a register's number of the control bits, and of the one that the code names.
+// An operand: its byte, its address, the register that it is used with, and the Cpu after the instruction's own bytes.
 #[derive(Clone, Copy)]
-pub enum OperandResult {
-    Ready(u8, Address, u8, PackedCpu),
-    Missing,
+struct PackedOperand {
+    byte: u8,
+    address: Address,
+    register: u8,
+    cpu: PackedCpu,
 }
 
+// The control bits are the manual's two bits of the second byte, and stay the number that they are there.
 fn index_value(control: u8, v: u8) -> u8
     ensures { result ≡ index_value_of control v }
 {
-    if control == 0 {
-        0
-    } else if control == 1 {
-        std::num::wrapping_add_u8(v, 1)
-    } else if control == 2 {
-        std::num::wrapping_sub_u8(v, 1)
-    } else {
-        v
+    match control {
+        0 => 0,
+        1 => v.wrapping_add(1),
+        2 => v.wrapping_sub(1),
+        _ => v,
     }
 }
 
-fn indexed_address(window: &[u8], indirect: u8, a: Address, i: u8) -> Resolved
+fn indexed_address(window: &[u8], indirect: u8, a: Address, i: u8) -> Option<Address>
     ensures { result ≡ indexed_address_of window.now indirect a i }
 {
     if indirect == 0 {
-        let d = address::add_in_page(a, i);
-        return Resolved::At(d);
+        Some(address::add_in_page(a, i))
+    } else {
+        let p = address::pointer(window, a)?;
+        Some(address::add_wrapping(p, i))
     }
-    let Resolved::At(p) = address::pointer(window, a) else {
-        return Resolved::Outside;
-    };
-    let d = address::add_wrapping(p, i);
-    Resolved::At(d)
 }
 
 fn data_address(m: PackedCpu, high: u8, low: u8) -> Address
     ensures { result ≡ data_address_of (cpu_of m) high low }
 {
-    let here = registers::counter(m);
-    Address(here.0 / 8192 * 8192 + ((high % 32) as u16 * 256 + low as u16))
+    Address(m.counter().0 / 8192 * 8192 + ((high % 32) as u16 * 256 + low as u16))
 }
 
 fn data_register(control: u8, r: u8) -> u8
@@ -67,79 +63,71 @@ fn stepped_index(m: PackedCpu, r: u8, control: u8, i: u8) -> PackedCpu
     if control == 0 {
         m
     } else {
-        registers::with_register(m, r, i)
+        m.with_register(r, i)
     }
 }
 
-fn register_operand(m: PackedCpu, r: u8) -> OperandResult
-    ensures { operand_result_of r result ≡ register_operand_of (cpu_of m) 1 r }
+fn register_operand(m: PackedCpu, r: u8) -> PackedOperand
+    ensures { operand_result_of (Some result) ≡ register_operand_of (cpu_of m) 1 r }
 {
-    let b = registers::register(m, r);
-    let n = result::advanced(m, 1);
-    OperandResult::Ready(b, Address(0), 1, n)
+    PackedOperand {
+        byte: m.register(r),
+        address: Address(0),
+        register: 0,
+        cpu: result::advanced(m, 1),
+    }
 }
 
-fn immediate_operand(m: PackedCpu, window: &[u8], r: u8) -> OperandResult
-    ensures { operand_result_of r result ≡ immediate_operand_of (cpu_of m) 2 window.now r }
+fn immediate_operand(m: PackedCpu, window: &[u8], r: u8) -> Option<PackedOperand>
+    ensures { operand_result_of result ≡ immediate_operand_of (cpu_of m) 2 window.now r }
 {
-    let at = result::address_after(m, 1);
-    let Fetched::Byte(b) = address::fetch(window, at) else {
-        return OperandResult::Missing;
-    };
-    let n = result::advanced(m, 2);
-    OperandResult::Ready(b, Address(0), 0, n)
+    let byte = address::fetch(window, result::address_after(m, 1))?;
+    Some(PackedOperand {
+        byte,
+        address: Address(0),
+        register: r,
+        cpu: result::advanced(m, 2),
+    })
 }
 
-fn relative_operand(m: PackedCpu, window: &[u8], r: u8) -> OperandResult
-    ensures { operand_result_of r result ≡ relative_operand_of (cpu_of m) 2 window.now r }
+fn relative_operand(m: PackedCpu, window: &[u8], r: u8) -> Option<PackedOperand>
+    ensures { operand_result_of result ≡ relative_operand_of (cpu_of m) 2 window.now r }
 {
-    let at = result::address_after(m, 1);
-    let Fetched::Byte(second) = address::fetch(window, at) else {
-        return OperandResult::Missing;
-    };
-    let next = result::address_after(m, 2);
-    let direct = address::relative(next, second);
-    let Resolved::At(a) = address::resolve(window, second / 128, direct) else {
-        return OperandResult::Missing;
-    };
-    let Fetched::Byte(b) = address::fetch(window, a) else {
-        return OperandResult::Missing;
-    };
-    let n = result::advanced(m, 2);
-    OperandResult::Ready(b, a, 0, n)
+    let second = address::fetch(window, result::address_after(m, 1))?;
+    let direct = address::relative(result::address_after(m, 2), second);
+    let address = address::resolve(window, second / 128, direct)?;
+    let byte = address::fetch(window, address)?;
+    Some(PackedOperand {
+        byte,
+        address,
+        register: r,
+        cpu: result::advanced(m, 2),
+    })
 }
 
-fn absolute_operand(m: PackedCpu, window: &[u8], r: u8) -> OperandResult
-    ensures { operand_result_of r result ≡ absolute_operand_of (cpu_of m) 3 window.now r }
+fn absolute_operand(m: PackedCpu, window: &[u8], r: u8) -> Option<PackedOperand>
+    ensures { operand_result_of result ≡ absolute_operand_of (cpu_of m) 3 window.now r }
 {
-    let second_at = result::address_after(m, 1);
-    let Fetched::Byte(high) = address::fetch(window, second_at) else {
-        return OperandResult::Missing;
-    };
-    let third_at = result::address_after(m, 2);
-    let Fetched::Byte(low) = address::fetch(window, third_at) else {
-        return OperandResult::Missing;
-    };
+    let high = address::fetch(window, result::address_after(m, 1))?;
+    let low = address::fetch(window, result::address_after(m, 2))?;
     let control = high / 32 % 4;
-    let v = registers::register(m, r);
-    let i = index_value(control, v);
-    let direct = data_address(m, high, low);
-    let Resolved::At(a) = indexed_address(window, high / 128, direct, i) else {
-        return OperandResult::Missing;
-    };
-    let Fetched::Byte(b) = address::fetch(window, a) else {
-        return OperandResult::Missing;
-    };
-    let s = stepped_index(m, r, control, i);
-    let n = result::advanced(s, 3);
-    OperandResult::Ready(b, a, control, n)
+    let index = index_value(control, m.register(r));
+    let address = indexed_address(window, high / 128, data_address(m, high, low), index)?;
+    let byte = address::fetch(window, address)?;
+    let stepped = stepped_index(m, r, control, index);
+    Some(PackedOperand {
+        byte,
+        address,
+        register: data_register(control, r),
+        cpu: result::advanced(stepped, 3),
+    })
 }
 
-fn operand_of(mode: Mode, m: PackedCpu, window: &[u8], r: u8) -> OperandResult
-    ensures { operand_result_of r result ≡ operand_of mode (cpu_of m) (mode_length mode) window.now r }
+fn operand_of(mode: Mode, m: PackedCpu, window: &[u8], r: u8) -> Option<PackedOperand>
+    ensures { operand_result_of result ≡ operand_of mode (cpu_of m) (mode_length mode) window.now r }
 {
     match mode {
-        Mode::Register => register_operand(m, r),
+        Mode::Register => Some(register_operand(m, r)),
         Mode::Immediate => immediate_operand(m, window, r),
         Mode::Relative => relative_operand(m, window, r),
         Mode::Absolute => absolute_operand(m, window, r),
@@ -158,18 +146,20 @@ pub fn operate_on_operand(
 ) -> PackedStep
     ensures { step_result_of result ≡ operate_on_operand_of mode access (cpu_of m) (mode_length mode) window.now locked r }
 {
-    let OperandResult::Ready(b, a, control, n) = operand_of(mode, m, window, r) else {
-        return result::stopped(m, 6);
+    let Some(operand) = operand_of(mode, m, window, r) else {
+        return result::stopped(m, Status::Outside.number());
     };
-    let d = data_register(control, r);
     match access {
-        Access::Read(f) => result::operated(f, n, d, b),
+        Access::Read(f) => result::operated(f, operand.cpu, operand.register, operand.byte),
         Access::Write => {
-            if (a.0 as usize) < locked {
-                return result::stopped(m, 8);
+            if (operand.address.0 as usize) < locked {
+                return result::stopped(m, Status::Locked.number());
             }
-            let v = registers::register(n, d);
-            result::step_result(n, 1, PackedEffect::Store(a.0 as u64, v as u64))
+            let effect = PackedEffect::Store {
+                address: operand.address.0 as u64,
+                byte: operand.cpu.register(operand.register) as u64,
+            };
+            result::step_result(operand.cpu, Status::Running.number(), effect)
         }
     }
 }

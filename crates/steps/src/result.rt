@@ -1,4 +1,6 @@
 // What a step comes to, and the ways in which one ends.
+#![tactic(auto, unfolding(crate::specs::OperandDefinitions::result_definitions, crate::specs::PackedStep::step_result_of))]
+
 ghost use Rattle.std.specs.Prelude.{◌≡◌};
 ghost use Rattle.registers.specs.PackedCpu.{cpu_of};
 ghost use Rattle.steps.specs.PackedStep.{effect_of, step_result_of};
@@ -7,18 +9,18 @@ ghost use Rattle.steps.specs.Result.{step_result, running_of, stopped_of, addres
 use crate::address;
 use alu::Operation;
 use common::Address;
-use registers::PackedCpu;
+use registers::{PackedCpu, Status};
 
-// What a step does beside the registers, in whole words: an address and a byte, or a byte.
-#[derive(Clone, Copy)]
+// What a step does beside the registers: its numbers are whole words.
+#[derive(Clone, Copy, Debug, PartialEq, Eq)]
 pub enum PackedEffect {
     Nothing,
-    Store(u64, u64),
+    Store { address: u64, byte: u64 },
     Take,
-    Put(u64),
+    Put { byte: u64 },
 }
 
-// What a step comes to.
+// What a step comes to. Its status is a number, since callers of `step_result` may pass any.
 #[derive(Clone, Copy)]
 pub struct PackedStep {
     pub cpu: PackedCpu,
@@ -39,48 +41,36 @@ pub fn step_result(m: PackedCpu, status: u8, effect: PackedEffect) -> PackedStep
 pub fn running(m: PackedCpu) -> PackedStep
     ensures { step_result_of result ≡ running_of (cpu_of m) }
 {
-    PackedStep {
-        cpu: m,
-        status: 1,
-        effect: PackedEffect::Nothing,
-    }
+    step_result(m, Status::Running.number(), PackedEffect::Nothing)
 }
 
 pub fn stopped(m: PackedCpu, status: u8) -> PackedStep
     ensures { step_result_of result ≡ stopped_of (cpu_of m) status }
 {
-    PackedStep {
-        cpu: m,
-        status,
-        effect: PackedEffect::Nothing,
-    }
+    step_result(m, status, PackedEffect::Nothing)
 }
 
 pub fn address_after(m: PackedCpu, k: u8) -> Address
     ensures { result ≡ address_after (cpu_of m) k }
 {
-    let here = registers::counter(m);
-    address::add_in_page(here, k)
+    address::add_in_page(m.counter(), k)
 }
 
 pub fn advanced(m: PackedCpu, k: u8) -> PackedCpu
     ensures { cpu_of result ≡ advanced_of (cpu_of m) k }
 {
-    let a = address_after(m, k);
-    registers::with_counter(m, a)
+    m.with_counter(address_after(m, k))
 }
 
 // The instruction is carried out: the counter is past its k bytes.
 pub fn running_after(m: PackedCpu, k: u8) -> PackedStep
     ensures { step_result_of result ≡ running_of (advanced_of (cpu_of m) k) }
 {
-    let t = advanced(m, k);
-    running(t)
+    running(advanced(m, k))
 }
 
 pub(crate) fn operated(f: Operation, m: PackedCpu, r: u8, b: u8) -> PackedStep
     ensures { step_result_of result ≡ operated_of f (cpu_of m) r b }
 {
-    let n = registers::operate(f, m, r, b);
-    running(n)
+    running(m.operate(f, r, b))
 }

@@ -1,27 +1,24 @@
 -- Loading: the conditions in parts, and what an accepted and a refused file say.
-use Prim.Native.Nat.{ℕ, ◌<◌}
+use Prim.Native.Nat.{ℕ}
 use mathlib.Core.List.{List, ◌++◌}
-use mathlib.Core.Path.{◌≡◌, sym, ap, ◌∙◌}
-use borrow.Author.Tests.{ne_eqb}
-use Rattle.common.specs.RefusalLaws.{none_holds, refused_by_front, left_to_rest}
-use Rattle.common.specs.Refusals.{Condition, refusal_by}
+use mathlib.Core.Path.{◌≡◌, sym, ◌∙◌}
+use Rattle.std.specs.Prelude.{Result, Ok, Err, IsErrAnd}
+use Rattle.std.proofs.Common.{ne_eqb}
+use Rattle.table.specs.CheckLaws.{front_refuses, front_passes}
+use Rattle.common.specs.RefusalLaws.{number_some}
+use Rattle.common.specs.Refusals.{Condition, refusal_by, refusal_in, refusal_number}
+use Rattle.common.specs.declared.refusals.Refusal.{Refusal}
 use Rattle.common.specs.declared.places.Location.{Location}
-use Rattle.pattern.specs.Reader.{parameters_of, read_of, read_refusal}
-use Rattle.pattern.specs.ReaderLaws.{accepted_fact, refused_accepted, read_zero}
-use Rattle.pattern.specs.declared.reader.ReadResult.{ReadResult}
-use Rattle.pattern.specs.declared.reader.ReadResult.TheVariants.{Accepted, Refused}
+use Rattle.pattern.specs.Reader.{parameters_of, read_of, read_result}
+use Rattle.pattern.specs.ReaderLaws.{accepted_fact}
 use Rattle.pattern.specs.declared.parameters.Parameters.{Parameters}
 use Rattle.supervisor.specs.Calls.{load, change, change_conditions, refusal}
-use Rattle.system.specs.ConditionLaws.{SoundSystem, vacant_numbered, vacant_slot}
+use Rattle.system.specs.ConditionLaws.{vacant_numbered}
 use Rattle.system.specs.System.{System}
 use Rattle.table.specs.TableConditions.{empty_slot_conditions}
 use Rattle.system.specs.Conditions.{system_conditions}
 use Rattle.supervisor.specs.Loading.{file_conditions, location_conditions, partition_for}
 use Rattle.common.specs.ConditionDefinitions.{condition_definitions}
-
--- a refused file has a number
-read_some : (s : List ℕ) (n : ℕ) → read_of s ≡ Refused n → n ≡ 0 → ⊥
-read_some s n e none = refused_accepted n (sym e ∙ read_zero s (ap read_refusal e ∙ none))
 
 -- ---- the conditions in parts
 
@@ -29,34 +26,28 @@ abbrev vacant_conditions : System → ℕ → List Condition
 vacant_conditions x k = system_conditions x ++ empty_slot_conditions x.table k
 
 module _ (x : System) (k : ℕ) where
-  pub vacant_accepted : {n : ℕ} → n ≡ refusal_by (system_conditions x ++ empty_slot_conditions x.table k) → n ≡ 0 → SoundSystem x × (k < 8)
-  vacant_accepted e none = vacant_slot x k (none_holds (vacant_conditions x k) (vacant_numbered x k) (sym e ∙ none))
-
-  module _ (location : Location) (file : List ℕ) {n : ℕ} (e : n ≡ refusal_by (system_conditions x ++ empty_slot_conditions x.table k)) where
+  module _ (location : Location) (file : List ℕ) where
     abbrev own_conditions : List Condition
     own_conditions = file_conditions file ++ location_conditions x.table k (partition_for location (parameters_of file))
 
-    pub load_stops : (n ≡ 0 → ⊥) → n ≡ refusal (change k (load location file)) x
+    -- refused before its file is read
+    pub load_stops : {A : Type 0} (r : Result A Refusal) (e : Refusal) → refusal_number e ≡ refusal_by (system_conditions x ++ empty_slot_conditions x.table k)
+        → IsErrAnd r (λ y. y ≡ e) → refusal_in r ≡ refusal (change k (load location file)) x
     unfolding refusal change_conditions
-    load_stops = refused_by_front (vacant_conditions x k) own_conditions (vacant_numbered x k) e
+    load_stops r e refused h = front_refuses (vacant_conditions x k) own_conditions (vacant_numbered x k) r e refused h
 
-    load_goes : n ≡ 0 → refusal (change k (load location file)) x ≡ refusal_by own_conditions
-    unfolding refusal change_conditions
-    load_goes = left_to_rest (vacant_conditions x k) own_conditions (vacant_numbered x k) e
+    module _ (passed : 0 ≡ refusal_by (system_conditions x ++ empty_slot_conditions x.table k)) where
+      -- by its file
+      pub load_refused : (q : Refusal) → read_result (Err q) ≡ read_of file → refusal_number q ≡ refusal (change k (load location file)) x
+      unfolding refusal change_conditions condition_definitions file_conditions
+      load_refused q read =
+          front_passes (vacant_conditions x k) own_conditions (vacant_numbered x k) passed
+          (rw (← read, ne_eqb (refusal_number q) 0 (number_some q)))
 
-    -- a file that is refused, and one that is not
-    pub load_refused : {m : ℕ} → n ≡ 0 → (a : ReadResult) → a ≡ read_of file → a ≡ Refused m
-        → (read_refusal a ≡ refusal (change k (load location file)) x) × (read_refusal a ≡ 0 → ⊥)
-    unfolding condition_definitions file_conditions
-    load_refused {m} none a read q =
-        let r : read_of file ≡ Refused m = sym read ∙ q in
-        let some : m ≡ 0 → ⊥ = read_some file m r in
-        let is : read_refusal a ≡ m = ap read_refusal q in
-        (is ∙ sym (load_goes none ∙ rw (r, ne_eqb m 0 some)), λ z. some (sym is ∙ z))
-
-    pub load_places : {v : Parameters} → n ≡ 0 → (a : ReadResult) → a ≡ read_of file → a ≡ Accepted v
-        → refusal (change k (load location file)) x ≡ refusal_by (location_conditions x.table k (partition_for location v))
-    unfolding condition_definitions file_conditions
-    load_places {v} none a read q =
-        let r : read_of file ≡ Accepted v = sym read ∙ q in
-        load_goes none ∙ rw (r, (accepted_fact file v r).same)
+      -- by its location, or not at all
+      pub load_places : (v : Parameters) → read_result (Ok v) ≡ read_of file → {n : ℕ}
+          → n ≡ refusal_by (location_conditions x.table k (partition_for location v)) → n ≡ refusal (change k (load location file)) x
+      unfolding refusal change_conditions condition_definitions file_conditions
+      load_places v read {n} e =
+          front_passes (vacant_conditions x k) own_conditions (vacant_numbered x k) passed
+          (e ∙ rw (← read, (accepted_fact file v (sym read)).same))

@@ -2,7 +2,7 @@
 use Rattle.std.specs.Prelude.{List, ◌≢◌, ◌≡◌, ℕ, ◌≤◌, ◌<◌}
 use Rattle.common.specs.declared.places.Location.{Location}
 use Rattle.pattern.specs.Reader.{read_of, parameters_of}
-use Rattle.pattern.specs.declared.reader.ReadResult.TheVariants.{Accepted}
+use Rattle.pattern.specs.Reader.{Accepted}
 use Rattle.system.specs.System.{System, slot_of}
 use Rattle.system.specs.ConditionLaws.{SoundSystem}
 use Rattle.supervisor.specs.Loading.{partition_for}

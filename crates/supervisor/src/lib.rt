@@ -10,7 +10,7 @@ mod resuming;
 mod unloading;
 
 pub use calls::run;
-pub use draining::{DrainAnswer, drain};
+pub use draining::{Drained, drain};
 pub use feeding::feed;
 pub use loading::load;
 pub use unloading::unload;

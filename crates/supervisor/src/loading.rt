@@ -1,40 +1,57 @@
 // Loading: a pattern file into an empty slot and its partition.
-ghost use Rattle.std.specs.Prelude.{◌≡◌, ◌<◌};
-ghost use Rattle.common.specs.Refusals.{refusal_by};
-ghost use Rattle.pattern.specs.Reader.{read_of};
-ghost use Rattle.pattern.specs.declared.reader.ReadResult.TheVariants.{Accepted};
+ghost use Rattle.std.specs.Prelude.{◌≡◌, IfOk, Ok};
+ghost use Rattle.common.specs.Refusals.{refusal_by, refusal_in};
+ghost use Rattle.pattern.specs.Reader.{read_result, read_of};
 ghost use Rattle.supervisor.specs.Calls as calls;
-ghost use Rattle.system.specs.System.{outcome, system, patched};
-ghost use Rattle.supervisor.specs.Calls.{outcome_of};
+ghost use Rattle.system.specs.System.{answer_outcome, system, patched};
+ghost use Rattle.supervisor.specs.Calls.{refusal, outcome_of};
 ghost use Rattle.supervisor.specs.Loading.{partition_for, location_conditions, load_patch};
 
-use common::Location;
+use common::{Location, Refusal};
 use pattern::Parameters;
-use system::system_empty_slot_refusal;
-use table::{Answer, Partition, Slot, Table, count_free, is_clear_of_others};
+use system::check_system_empty_slot;
+use table::{Partition, RefusedCall, Slot, Table, count_free, is_clear_of_others};
 
+#[tactic(auto, unfolding(crate::specs::Loading::partition_for))]
 fn partition_for(location: Location, parameters: Parameters) -> Partition
     ensures { result ≡ partition_for location parameters }
 {
-    let layout = parameters.layout;
     Partition {
         base: location,
-        layout,
+        layout: parameters.layout,
         quantum: parameters.quantum,
     }
 }
 
-// The refusal of a partition that ends past the memory, or that meets another; 0 for none.
-fn location_refusal(table: Table, slot: usize, p: Partition) -> u8
-    ensures { result ≡ refusal_by (location_conditions table slot p) }
+// What refuses a partition: it ends past the memory, or meets another.
+#[tactic(auto, using(common::specs::TestLaws::tests), unfolding(common::specs::ConditionDefinitions::condition_definitions, crate::specs::Loading::location_conditions))]
+fn check_location(table: Table, slot: usize, p: Partition) -> Result<(), Refusal>
+    ensures { refusal_in result ≡ refusal_by (location_conditions table slot p) }
 {
     if (table.size as usize) < p.end() {
-        return 12;
+        return Err(Refusal::PastEnd);
     }
     if !is_clear_of_others(table, slot, p) {
-        return 13;
+        return Err(Refusal::Meets);
     }
-    0
+    Ok(())
+}
+
+// What refuses a load, in the table's order: slot, file, location. Else the file's parameters.
+fn check_load(
+    table: Table,
+    memory: &[u8],
+    slot: usize,
+    location: Location,
+    file: &[u8],
+) -> Result<Parameters, Refusal>
+    ensures refusal { refusal_in result ≡ refusal (calls.change slot (calls.load location file.now)) (system table memory.now) }
+    ensures parameters { IfOk result (λ parameters. read_of file.now ≡ read_result (Ok parameters)) }
+{
+    check_system_empty_slot(table, memory, slot)?;
+    let parameters = pattern::read(file)?;
+    check_location(table, slot, partition_for(location, parameters))?;
+    Ok(parameters)
 }
 
 // The accepted load: the partition's bytes, and a table with the slot taken.
@@ -42,46 +59,34 @@ fn load_slot(
     table: Table,
     memory: &mut [u8],
     slot: usize,
-    partition: Partition,
+    location: Location,
     parameters: Parameters,
     file: &[u8],
 ) -> Table
-    requires slot_bound { slot < 8 }
-    requires file_value { read_of file.now ≡ Accepted parameters }
-    requires partition_value { partition ≡ partition_for partition.base parameters }
-    ensures { system result memory.new ≡ patched (system table memory.old) slot (load_patch partition.base file.now) }
+    requires { read_of file.now ≡ read_result (Ok parameters) }
+    ensures { system result memory.new ≡ patched (system table memory.old) slot (load_patch location file.now) }
 {
-    loader::put_fresh_bytes(file, memory, partition.base);
+    loader::put_fresh_bytes(file, memory, location);
     let input = pattern::input_body(file);
+    let partition = partition_for(location, parameters);
     let state = loader::fresh_state(parameters, input.len() as u16);
-    let mut next = table;
-    next.slots[slot] = Slot { partition, state };
-    next
+    table.with_slot(slot, Slot { partition, state })
 }
 
-// Document 01's mount. What refuses it comes in the table's order: slot, file, location.
-pub fn load(table: Table, memory: &mut [u8], slot: usize, location: Location, file: &[u8]) -> Answer
-    ensures { outcome result.refusal result.table memory.new ≡ outcome_of (calls.change slot (calls.load location file.now)) (system table memory.old) }
+// Document 01's mount.
+pub fn load(
+    table: Table,
+    memory: &mut [u8],
+    slot: usize,
+    location: Location,
+    file: &[u8],
+) -> Result<Table, RefusedCall>
+    ensures { answer_outcome result memory.new ≡ outcome_of (calls.change slot (calls.load location file.now)) (system table memory.old) }
 {
-    let refusal = system_empty_slot_refusal(table, &memory[..], slot);
-    if refusal != 0 {
-        return Answer { refusal, table };
-    }
-    let answer = pattern::read(file);
-    let pattern::ReadResult::Accepted(parameters) = answer else {
-        return Answer {
-            refusal: answer.refusal(),
-            table,
-        };
-    };
-    let partition = partition_for(location, parameters);
-    let refusal = location_refusal(table, slot, partition);
-    if refusal != 0 {
-        return Answer { refusal, table };
-    }
-    let next = load_slot(table, memory, slot, partition, parameters, file);
-    Answer {
-        refusal: 0,
-        table: count_free(next),
-    }
+    let parameters = check_load(table, memory, slot, location, file).map_err(|refusal| RefusedCall {
+        refusal,
+        table,
+    })?;
+    let next = load_slot(table, memory, slot, location, parameters, file);
+    Ok(count_free(next))
 }

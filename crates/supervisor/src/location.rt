@@ -11,8 +11,7 @@ fn location_of(p: Partition, a: Address) -> Location
     requires { p.base.0 + a.0 < 4294967296 }
     ensures { result ≡ location_of p a }
 {
-    let base = p.base;
-    Location(base.0 + a.0 as u32)
+    Location(p.base.0 + a.0 as u32)
 }
 
 // Where the input buffer starts: at the first address outside the window.
@@ -20,8 +19,7 @@ pub(crate) fn input_location(p: Partition) -> Location
     requires { partition_end p ≤ 65536 }
     ensures { result ≡ input_location p }
 {
-    let layout = p.layout;
-    location_of(p, Address(layout.window))
+    location_of(p, Address(p.layout.window))
 }
 
 // Where the output buffer starts: behind the input buffer.
@@ -29,7 +27,5 @@ pub(crate) fn output_location(p: Partition) -> Location
     requires { partition_end p ≤ 65536 }
     ensures { result ≡ output_location p }
 {
-    let layout = p.layout;
-    let input = input_location(p);
-    Location(input.0 + layout.input as u32)
+    Location(input_location(p).0 + p.layout.input as u32)
 }

@@ -2,7 +2,7 @@
 use mathlib.Core.Bool.{true}
 use mathlib.Core.List.{List, ◌++◌, append_assoc}
 use mathlib.Core.Path.{◌≡◌, refl, sym, ap, ◌∙◌, subst}
-use Prim.Native.Nat.{ℕ, ◌+◌, ◌-◌, ◌≤◌, ◌<◌}
+use Prim.Native.Nat.{ℕ, ◌+◌, ◌≤◌, ◌<◌}
 use native.Mathlib.Omega.{arith}
 use lib.ListN.{length, take, drop}
 use lib.Seq.{drop-drop}
@@ -77,12 +77,11 @@ pub quanta_sound : (k : ℕ) (x y : System) → k ≤ 8 → SoundSystem x → y 
 quanta_sound k x y q g e = subst SoundSystem (sym e) (quanta_running k q x g).system
 
 -- no round is made, and one more
-pub rounds_begin : (n : ℕ) (x : System) → x ≡ times (n - n) (slot_quanta 8) x
-rounds_begin n x = let e : n - n ≡ 0 = omega arith in sym (ap (λ (i : ℕ). times i (slot_quanta 8) x) e ∙ times_zero (slot_quanta 8) x)
+pub rounds_begin : (x : System) → x ≡ times 0 (slot_quanta 8) x
+rounds_begin x = sym (times_zero (slot_quanta 8) x)
 
-pub rounds_more : (c d k : ℕ) (x y z : System) → k ≡ 8 → d ≡ c + 1 → y ≡ times c (slot_quanta 8) x → z ≡ slot_quanta k y → z ≡ times d (slot_quanta 8) x
-rounds_more c d k x y z e next f h =
-    h ∙ ap (λ (n : ℕ). slot_quanta n y) e ∙ ap (slot_quanta 8) f ∙ sym (ap (λ (n : ℕ). times n (slot_quanta 8) x) next ∙ times_suc (slot_quanta 8) c x)
+pub rounds_more : (c k : ℕ) (x y z : System) → k ≡ 8 → y ≡ times c (slot_quanta 8) x → z ≡ slot_quanta k y → z ≡ times (c + 1) (slot_quanta 8) x
+rounds_more c k x y z e f h = h ∙ ap (λ (n : ℕ). slot_quanta n y) e ∙ ap (slot_quanta 8) f ∙ sym (times_suc (slot_quanta 8) c x)
 
 pub rounds_sound : (c : ℕ) (x y : System) → SoundSystem x → y ≡ times c (slot_quanta 8) x → SoundSystem y
 unfolding after_run

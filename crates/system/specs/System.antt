@@ -1,11 +1,12 @@
 -- Definitions that must be believed: a table and its memory, the machine of a slot, the change of one slot, and what a call leaves.
-use Rattle.std.specs.Prelude.{ℕ, eqb, List, ◌++◌}
+use Rattle.std.specs.Prelude.{ℕ, eqb, List, ◌++◌, Result}
 use Rattle.common.specs.Choice.{when◌then◌else◌}
 use Rattle.common.specs.Layout.{layout_size}
 use Rattle.cpu.specs.Machine.{Machine, machine_of}
 use Rattle.slices.specs.Slices.{copied, part_of}
-use Rattle.table.specs.Table.{slot_at, with_slot}
+use Rattle.table.specs.Table.{answer_in, slot_at, with_slot}
 use Rattle.common.specs.declared.places.Location.{Location}
+use Rattle.table.specs.declared.table.RefusedCall.{RefusedCall}
 use Rattle.table.specs.declared.table.Slot.{Slot}
 use Rattle.table.specs.declared.table.Table.{Table}
 
@@ -50,6 +51,10 @@ pub record Outcome : Type 0 where
 
 abbrev pub outcome : ℕ → Table → List ℕ → Outcome
 outcome n t memory = record { refusal = n; after = system t memory }
+
+-- the same of an answer of the code, and of the memory that the call leaves
+abbrev pub answer_outcome : Result Table RefusedCall → List ℕ → Outcome
+answer_outcome r memory = outcome (answer_in r).refusal (answer_in r).table memory
 
 -- the outcome of a call by its refusal, 0 for none, and by what it leaves if it is accepted. A refused call hands back the table that it was
 -- given, and changes no byte

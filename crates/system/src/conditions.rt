@@ -1,44 +1,40 @@
 // What refuses a call before its own conditions: the table's conditions, the memory's, the slot's. Each is looked at in one place.
+// The table goes by value, as document 01 wants the core, and its memory as a lent slice, as the entry points have it: no struct holds both.
 ghost use Rattle.std.specs.Prelude.{◌++◌, ◌≡◌};
-ghost use Rattle.common.specs.Refusals.{refusal_by};
+ghost use Rattle.common.specs.Refusals.{refusal_by, refusal_in};
 ghost use Rattle.table.specs.TableConditions.{empty_slot_conditions, loaded_slot_conditions};
 ghost use Rattle.system.specs.System.{system};
 ghost use Rattle.system.specs.Conditions.{system_conditions};
 
-use table::{Table, empty_slot_refusal, loaded_slot_refusal, table_refusal};
+use common::Refusal;
+use table::{Table, check_empty_slot, check_loaded_slot, check_table};
 
-// The refusal of a call with a table and its memory.
-pub fn system_refusal(table: Table, memory: &[u8]) -> u8
-    ensures { result ≡ refusal_by (system_conditions (system table memory.now)) }
+// What refuses a call with a table and its memory.
+#[tactic(auto, using(table::specs::CheckLaws::front_passes, table::specs::TableConditionLaws::table_numbered, common::specs::TestLaws::tests), unfolding(crate::specs::Conditions::system_conditions, common::specs::ConditionDefinitions::condition_definitions))]
+pub fn check_system(table: Table, memory: &[u8]) -> Result<(), Refusal>
+    ensures { refusal_in result ≡ refusal_by (system_conditions (system table memory.now)) }
 {
-    let refusal = table_refusal(table);
-    if refusal != 0 {
-        return refusal;
-    }
+    check_table(table)?;
     if memory.len() != table.size as usize {
-        return 2;
+        return Err(Refusal::OtherLength);
     }
-    0
+    Ok(())
 }
 
-// The refusal of a call with a table and its memory, at a slot that is to be empty.
-pub fn system_empty_slot_refusal(table: Table, memory: &[u8], slot: usize) -> u8
-    ensures { result ≡ refusal_by (system_conditions (system table memory.now) ++ empty_slot_conditions table slot) }
+// What refuses a call with a table and its memory, at a slot that is to be empty.
+#[tactic(auto, using(table::specs::CheckLaws::front_passes, crate::specs::ConditionLaws::system_numbered))]
+pub fn check_system_empty_slot(table: Table, memory: &[u8], slot: usize) -> Result<(), Refusal>
+    ensures { refusal_in result ≡ refusal_by (system_conditions (system table memory.now) ++ empty_slot_conditions table slot) }
 {
-    let refusal = system_refusal(table, memory);
-    if refusal != 0 {
-        return refusal;
-    }
-    empty_slot_refusal(table, slot)
+    check_system(table, memory)?;
+    check_empty_slot(table, slot)
 }
 
-// The refusal of a call with a table and its memory, at a slot that is to hold a pattern.
-pub fn system_loaded_slot_refusal(table: Table, memory: &[u8], slot: usize) -> u8
-    ensures { result ≡ refusal_by (system_conditions (system table memory.now) ++ loaded_slot_conditions table slot) }
+// What refuses a call with a table and its memory, at a slot that is to hold a pattern.
+#[tactic(auto, using(table::specs::CheckLaws::front_passes, crate::specs::ConditionLaws::system_numbered))]
+pub fn check_system_loaded_slot(table: Table, memory: &[u8], slot: usize) -> Result<(), Refusal>
+    ensures { refusal_in result ≡ refusal_by (system_conditions (system table memory.now) ++ loaded_slot_conditions table slot) }
 {
-    let refusal = system_refusal(table, memory);
-    if refusal != 0 {
-        return refusal;
-    }
-    loaded_slot_refusal(table, slot)
+    check_system(table, memory)?;
+    check_loaded_slot(table, slot)
 }

@@ -4,5 +4,5 @@
 mod conditions;
 mod running;
 
-pub use conditions::{system_empty_slot_refusal, system_loaded_slot_refusal, system_refusal};
+pub use conditions::{check_system, check_system_empty_slot, check_system_loaded_slot};
 pub use running::run;

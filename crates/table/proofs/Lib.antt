@@ -5,3 +5,5 @@ pub mod ExtentTotalLaws
 pub mod ExtentsTheorem
 pub mod GapLaws
 pub mod FreeBytesTheorem
+-- What private functions cite.
+pub mod ZeroLaws

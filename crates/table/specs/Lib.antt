@@ -13,6 +13,7 @@ pub mod TableDefinitions
 -- Laws that the checker has shown. The theorems on free extents and free bytes are in proofs/.
 pub mod SoundLaws
 pub mod PartitionByteLaws
+pub mod CheckLaws
 pub mod TableConditionLaws
 pub mod RecountingLaws
 pub mod ExtentLaws

@@ -1,15 +1,11 @@
 -- Definitions that must be believed: a table's free bytes counted, whatever its two numbers say. So a table is taken over that an earlier
 -- version kept without them.
-use Rattle.std.specs.Prelude.{not, [], ◌∷◌, ℕ}
+use Rattle.std.specs.Prelude.{not, [], ◌∷◌}
 use Rattle.common.specs.Refusals.{◌gives◌, unless}
 use Rattle.table.specs.FreeBytes.{counted}
 use Rattle.table.specs.Sound.{slots_sound}
-use Rattle.table.specs.declared.table.Answer.{Answer}
+use Rattle.table.specs.Table.{Answer, answer}
 use Rattle.table.specs.declared.table.Table.{Table}
-
--- a refusal, 0 for none, and a table
-abbrev pub answer : ℕ → Table → Answer
-answer n t = record { refusal = n; table = t }
 
 -- 1 if the slots are not sound, with the table that was given; else the table with its free bytes counted
 unfoldable pub recount_of : Table → Answer

@@ -3,9 +3,9 @@ use Rattle.std.specs.Prelude.{Bool, true, false, ◌≡◌, refl}
 use Rattle.std.proofs.Common.{ap, ◌∙◌, arith}
 use Rattle.common.specs.ConditionDefinitions.{condition_definitions}
 use Rattle.table.specs.FreeBytes.{counted}
-use Rattle.table.specs.Recounting.{answer, recount_of}
+use Rattle.table.specs.Recounting.{recount_of}
 use Rattle.table.specs.Sound.{slots_sound}
-use Rattle.table.specs.declared.table.Answer.{Answer}
+use Rattle.table.specs.Table.{Answer, answer}
 use Rattle.table.specs.declared.table.Table.{Table}
 
 -- sound slots are counted, and others refused by 1

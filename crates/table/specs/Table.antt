@@ -1,13 +1,14 @@
 -- Definitions that must be believed: slots, partitions, which bytes are in one, and a new table (document 01, "Floor and bays").
-use Rattle.std.specs.Prelude.{◌+◌, ◌<◌, ℕ, eqb, leb, ltb, get_or, length, replicate, set, Bool, ◌&&◌, false, not, [], ◌∷◌, ◌≡◌}
+use Rattle.std.specs.Prelude.{◌+◌, ◌<◌, ℕ, eqb, leb, ltb, get_or, length, replicate, set, Bool, ◌&&◌, false, not, [], ◌∷◌, ◌≡◌, Result, Ok, Err}
 use Rattle.common.specs.Choice.{when◌then◌else◌}
 use Rattle.common.specs.Layout.{layout_size}
 use Rattle.common.specs.Ranges.{is_one_to}
-use Rattle.common.specs.Refusals.{◌gives◌, refusal_by}
+use Rattle.common.specs.Refusals.{◌gives◌, refusal_by, refusal_number}
 use Rattle.registers.specs.Cpu.{fresh_cpu}
 use Rattle.registers.specs.State.{empty_state}
 use Rattle.registers.specs.declared.state.State.{State}
 use Rattle.table.specs.declared.table.Partition.{Partition}
+use Rattle.table.specs.declared.table.RefusedCall.{RefusedCall}
 use Rattle.table.specs.declared.table.Slot.{Slot}
 use Rattle.table.specs.declared.table.Table.{Table}
 
@@ -53,6 +54,21 @@ is_in_partition s i = not (is_empty s) && leb s.partition.base.0 i && ltb i (par
 -- byte i lies in the partition of no slot
 unfoldable pub InNoPartition : ℕ → Table → Type 0
 InNoPartition i t = (k : ℕ) → k < 8 → is_in_partition (slot_at t k) i ≡ false
+
+-- ---- what a call answers
+
+-- a refusal, 0 for none, and a table
+pub record Answer : Type 0 where
+  pub refusal : ℕ
+  pub table : Table
+
+abbrev pub answer : ℕ → Table → Answer
+answer n t = record { refusal = n; table = t }
+
+-- and so the code's: an accepted call answers the table that it leaves, a refused one why, with the table that it was given
+abbrev pub answer_in : Result Table RefusedCall → Answer
+answer_in (Ok t) = answer 0 t
+answer_in (Err r) = answer (refusal_number r.refusal) r.table
 
 -- ---- a new table
 

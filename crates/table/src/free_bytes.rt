@@ -6,47 +6,40 @@ ghost use Rattle.table.specs.Gaps.{bytes_left_below, end_before, gap_end_below, 
 ghost use Rattle.table.specs.Sound.{slots_sound};
 
 use crate::table::{Partition, Table};
-use common::{max, min};
 
 // What the partitions leave of the memory's length: how many bytes no partition has.
+#[tactic(auto, unfolding(crate::specs::Gaps::bytes_left_below, crate::specs::Table::slot_at))]
 fn bytes_left(table: Table) -> usize
     ensures { result ≡ bytes_left_below table 8 }
 {
     let mut free = table.size as usize;
-    let mut k: usize = 0;
-    while k < Table::SLOTS {
-        let s = table.slots[k];
-        let p = s.partition;
-        let layout = p.layout;
-        free -= min(free, layout.size());
-        k += 1;
+    for slot in &table.slots {
+        free = free.saturating_sub(slot.partition.layout.size());
     }
     free
 }
 
 // Where a run of bytes from `from` on ends: at `end`, or where the partition starts, if that is lower. A partition that ends at `from` or
 // below does not count.
+#[tactic(auto, using(common::specs::TestLaws::tests), unfolding(common::specs::ConditionDefinitions::condition_definitions, crate::specs::Gaps::end_before))]
 fn end_before(p: Partition, from: usize, end: usize) -> usize
     ensures { result ≡ end_before p from end }
 {
-    let base = p.base;
     if from < p.end() {
-        min(end, base.0 as usize)
+        end.min(p.base.0 as usize)
     } else {
         end
     }
 }
 
 // Where the run of bytes from `from` on ends, before the next partition or with the memory.
+#[tactic(auto, unfolding(crate::specs::Gaps::gap_end_below, crate::specs::Table::slot_at))]
 fn gap_end(table: Table, from: usize) -> usize
     ensures { result ≡ gap_end_below table from 8 }
 {
     let mut end = table.size as usize;
-    let mut k: usize = 0;
-    while k < Table::SLOTS {
-        let s = table.slots[k];
-        end = end_before(s.partition, from, end);
-        k += 1;
+    for slot in &table.slots {
+        end = end_before(slot.partition, from, end);
     }
     end
 }
@@ -55,30 +48,24 @@ fn gap_end(table: Table, from: usize) -> usize
 fn gap_from(table: Table, from: usize) -> usize
     ensures { result ≡ gap_from table from }
 {
-    let end = gap_end(table, from);
-    if end <= from {
-        return 0;
-    }
-    end - from
+    gap_end(table, from).saturating_sub(from)
 }
 
 // How many bytes the widest run has, which is the widest free extent. One starts at 0 or behind a partition. An empty slot's partition ends
 // at 0.
+#[tactic(auto, unfolding(crate::specs::Gaps::widest_gap_below, crate::specs::Table::slot_at))]
 fn widest_gap(table: Table) -> usize
     ensures { result ≡ widest_gap_below table 8 }
 {
     let mut widest = gap_from(table, 0);
-    let mut k: usize = 0;
-    while k < Table::SLOTS {
-        let s = table.slots[k];
-        let p = s.partition;
-        widest = max(widest, gap_from(table, p.end()));
-        k += 1;
+    for slot in &table.slots {
+        widest = widest.max(gap_from(table, slot.partition.end()));
     }
     widest
 }
 
 // Whether the table's two numbers are those of its free bytes.
+#[tactic(auto, using(crate::proofs::GapLaws::left_free, crate::proofs::GapLaws::gaps_widest, crate::specs::SoundLaws::slots_fact), unfolding(crate::specs::FreeBytes::is_counted))]
 pub(crate) fn is_counted(table: Table) -> bool
     requires { slots_sound table ≡ true }
     ensures { result ≡ is_counted table }
@@ -87,6 +74,7 @@ pub(crate) fn is_counted(table: Table) -> bool
 }
 
 // The table with its free bytes counted. It takes every table; what it counts is `counted` if the slots are sound (`counted-by-partitions`).
+#[tactic(auto, using(crate::proofs::GapLaws::left_within, crate::proofs::GapLaws::gaps_within))]
 pub fn count_free(table: Table) -> Table
     ensures { result ≡ counted_by_partitions table }
 {

@@ -12,5 +12,5 @@ pub use extents::Extent;
 pub use free_bytes::count_free;
 pub use recounting::recount;
 pub use sound::is_clear_of_others;
-pub use table::{Answer, Partition, Slot, Table};
-pub use table_conditions::{empty_slot_refusal, loaded_slot_refusal, table_refusal};
+pub use table::{Partition, RefusedCall, Slot, Table};
+pub use table_conditions::{check_empty_slot, check_loaded_slot, check_table};

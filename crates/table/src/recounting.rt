@@ -1,20 +1,21 @@
 // Counting the free bytes of a table, whatever its two numbers say.
 ghost use Rattle.std.specs.Prelude.{◌≡◌};
 ghost use Rattle.table.specs.Recounting.{recount_of};
+ghost use Rattle.table.specs.Table.{answer_in};
 
 use crate::free_bytes::count_free;
 use crate::sound::slots_sound;
-use crate::table::{Answer, Table};
+use crate::table::{RefusedCall, Table};
+use common::Refusal;
 
-// The table with its free bytes counted. It is refused by 1 if its slots are not sound. It takes no memory.
-pub fn recount(table: Table) -> Answer
-    ensures { result ≡ recount_of table }
+// The table with its free bytes counted. It is refused if its slots are not sound. It takes no memory.
+#[tactic(auto, using(crate::proofs::GapLaws::counted_by_partitions_law, crate::specs::SoundLaws::slots_fact), unfolding(common::specs::ConditionDefinitions::condition_definitions, crate::specs::Recounting::recount_of))]
+pub fn recount(table: Table) -> Result<Table, RefusedCall>
+    ensures { answer_in result ≡ recount_of table }
 {
     if !slots_sound(table) {
-        return Answer { refusal: 1, table };
+        let refusal = Refusal::NotSound;
+        return Err(RefusedCall { refusal, table });
     }
-    Answer {
-        refusal: 0,
-        table: count_free(table),
-    }
+    Ok(count_free(table))
 }

@@ -1,14 +1,16 @@
-// Whether a table is sound. Each test of a slot is written without a branch, in the shape of its definition.
+// Whether a table is sound, in the shape of its definition. A partition or a state is tested without a branch. An empty slot is not tested
+// as a loaded one too: every call tests all eight.
 ghost use Rattle.std.specs.Prelude.{◌≡◌};
 ghost use Rattle.common.specs.Tests.{all_below};
 ghost use Rattle.table.specs.Table.{slot_at};
-ghost use Rattle.table.specs.Sound.{all_fifteen_bits, all_zero, partition_sound, state_sound, is_zero_partition, is_zero_state, slot_sound, are_apart, is_clear_of_others, slots_sound, table_sound};
+ghost use Rattle.table.specs.Sound.{all_fifteen_bits, partition_sound, state_sound, is_zero_partition, is_zero_state, slot_sound, are_apart, is_clear_of_others, slots_sound, table_sound};
 
 use crate::free_bytes::is_counted;
 use crate::table::{Partition, Slot, Table};
-use common::{Layout, is_one_to};
-use registers::{State, stored_psu};
+use common::{Address, Layout, is_one_to};
+use registers::{Cpu, State, Status, stored_psu};
 
+#[tactic(auto, unfolding(crate::specs::Sound::partition_sound, common::specs::Tests::and_all))]
 fn partition_sound(size: u32, p: Partition) -> bool
     ensures { result ≡ partition_sound size p }
 {
@@ -17,42 +19,14 @@ fn partition_sound(size: u32, p: Partition) -> bool
 }
 
 // Whether each address has fifteen bits.
+#[tactic(auto, unfolding(crate::specs::Sound::all_fifteen_bits))]
 fn all_fifteen_bits(l: &[u16]) -> bool
     ensures { result ≡ all_fifteen_bits l.now }
 {
-    let mut ok = true;
-    let mut i = 0;
-    while i < l.len() {
-        ok = ok & (l[i] < 32768);
-        i += 1;
-    }
-    ok
+    l.iter().all(|a| *a < 32768)
 }
 
-fn all_zero_u16s(l: &[u16]) -> bool
-    ensures { result ≡ all_zero l.now }
-{
-    let mut ok = true;
-    let mut i = 0;
-    while i < l.len() {
-        ok = ok & (l[i] == 0);
-        i += 1;
-    }
-    ok
-}
-
-fn all_zero_bytes(l: &[u8]) -> bool
-    ensures { result ≡ all_zero l.now }
-{
-    let mut ok = true;
-    let mut i = 0;
-    while i < l.len() {
-        ok = ok & (l[i] == 0);
-        i += 1;
-    }
-    ok
-}
-
+#[tactic(auto, unfolding(crate::specs::Sound::state_sound, common::specs::Tests::and_all))]
 fn state_sound(layout: Layout, s: State) -> bool
     ensures { result ≡ state_sound layout s }
 {
@@ -65,52 +39,35 @@ fn state_sound(layout: Layout, s: State) -> bool
         & (s.read <= s.filled)
         & (s.filled <= layout.input)
         & (s.written <= layout.output)
-        & ((s.status != 3) | (s.read == s.filled))
-        & ((s.status != 4) | (s.written == layout.output))
+        & ((s.status != Status::WantsInput.number()) | (s.read == s.filled))
+        & ((s.status != Status::OutputFull.number()) | (s.written == layout.output))
 }
 
+#[tactic(auto, using(crate::proofs::ZeroLaws::zero_partition_tests))]
 fn is_zero_partition(p: Partition) -> bool
     ensures { result ≡ is_zero_partition p }
 {
-    let base = p.base;
-    let layout = p.layout;
-    (base.0 == 0)
-        & (layout.window == 0)
-        & (layout.input == 0)
-        & (layout.output == 0)
-        & (layout.locked == 0)
-        & (p.quantum == 0)
+    p == Partition::empty()
 }
 
+#[tactic(auto, using(crate::proofs::ZeroLaws::zero_state_tests), unfolding(registers::specs::Cpu::fresh_cpu))]
 fn is_zero_state(s: State) -> bool
     ensures { result ≡ is_zero_state s }
 {
-    let cpu = s.cpu;
-    let registers = cpu.registers;
-    let returns = cpu.returns;
-    let no_registers = all_zero_bytes(&registers);
-    let no_returns = all_zero_u16s(&returns);
-    (s.status == 0)
-        & (s.filled == 0)
-        & (s.read == 0)
-        & (s.written == 0)
-        & (cpu.counter == 0)
-        & (cpu.psu == 0)
-        & (cpu.psl == 0)
-        & no_registers
-        & no_returns
+    s == State::empty(Cpu::fresh(Address(0)))
 }
 
+#[tactic(auto, unfolding(crate::specs::Sound::slot_sound))]
 fn slot_sound(size: u32, s: Slot) -> bool
     ensures { result ≡ slot_sound size s }
 {
     let p = s.partition;
-    let state = s.state;
-    is_zero_partition(p) & is_zero_state(state)
-        | partition_sound(size, p) & state_sound(p.layout, state)
+    is_zero_partition(p) && is_zero_state(s.state)
+        || partition_sound(size, p) && state_sound(p.layout, s.state)
 }
 
 // Whether two partitions do not meet.
+#[tactic(auto, unfolding(crate::specs::Sound::are_apart))]
 fn are_apart(p: Partition, q: Partition) -> bool
     ensures { result ≡ are_apart p q }
 {
@@ -120,48 +77,37 @@ fn are_apart(p: Partition, q: Partition) -> bool
 }
 
 // Whether `p` meets the partition of no slot but one.
+#[tactic(auto, using(common::specs::AllBelowLaws::all_none, common::specs::AllBelowLaws::all_more), unfolding(crate::specs::Sound::is_clear_of_others, crate::specs::Table::slot_at))]
 pub fn is_clear_of_others(table: Table, except: usize, p: Partition) -> bool
     ensures { result ≡ is_clear_of_others table except p }
 {
     let mut ok = true;
-    let mut j: usize = 0;
-    while j < Table::SLOTS {
-        let s = table.slots[j];
-        let q = s.partition;
-        ok = ok & ((j == except) | are_apart(q, p));
-        j += 1;
+    for (j, slot) in table.slots.iter().enumerate() {
+        ok &= (j == except) | are_apart(slot.partition, p);
     }
     ok
 }
 
+#[tactic(auto, unfolding(crate::specs::Table::slot_at))]
 fn each_slot_sound(table: Table) -> bool
     ensures { result ≡ all_below 8 (λ k. slot_sound table.size (slot_at table k)) }
 {
-    let mut ok = true;
-    let mut k: usize = 0;
-    while k < Table::SLOTS {
-        let s = table.slots[k];
-        ok = ok & slot_sound(table.size, s);
-        k += 1;
-    }
-    ok
+    table.slots.iter().all(|slot| slot_sound(table.size, *slot))
 }
 
+#[tactic(auto, using(common::specs::AllBelowLaws::all_none, common::specs::AllBelowLaws::all_more), unfolding(crate::specs::Table::slot_at))]
 fn slots_apart(table: Table) -> bool
     ensures { result ≡ all_below 8 (λ k. is_clear_of_others table k (slot_at table k).partition) }
 {
     let mut ok = true;
-    let mut k: usize = 0;
-    while k < Table::SLOTS {
-        let s = table.slots[k];
-        let p = s.partition;
-        ok = ok & is_clear_of_others(table, k, p);
-        k += 1;
+    for (k, slot) in table.slots.iter().enumerate() {
+        ok &= is_clear_of_others(table, k, slot.partition);
     }
     ok
 }
 
 // Whether the slots are sound, and the memory's length. That there are eight slots is their type.
+#[tactic(auto, using(common::specs::TestLaws::and_true), unfolding(crate::specs::Sound::slots_sound, common::specs::Tests::and_all))]
 pub(crate) fn slots_sound(table: Table) -> bool
     ensures { result ≡ slots_sound table }
 {
@@ -169,6 +115,7 @@ pub(crate) fn slots_sound(table: Table) -> bool
 }
 
 // Whether the table is sound. Its free bytes are counted only if its slots are sound.
+#[tactic(auto, unfolding(crate::specs::Sound::table_sound))]
 pub(crate) fn table_sound(table: Table) -> bool
     ensures { result ≡ table_sound table }
 {

@@ -1,13 +1,13 @@
 // The table and its parts, by value; a new table.
 ghost use Rattle.std.specs.Prelude.{◌≡◌};
-ghost use Rattle.table.specs.Table.{empty_partition, partition_end, empty_slot, empty_table, new_refusal, new_table};
+ghost use Rattle.table.specs.Table.{answer_in, empty_partition, partition_end, is_empty, empty_slot, with_slot, empty_table, new_refusal, new_table};
 
-use common::{Address, Layout, Location, is_one_to};
-use registers::{Cpu, State};
+use common::{Address, Layout, Location, Refusal, is_one_to};
+use registers::{Cpu, State, Status};
 
 // What stays of a slot from load to unload (document 01's bay): where its bytes start in memory, how they are divided, and how many
 // steps it takes in a round (document 01's stint).
-#[derive(Clone, Copy)]
+#[derive(Clone, Copy, Debug, PartialEq, Eq)]
 pub struct Partition {
     pub base: Location,
     pub layout: Layout,
@@ -16,7 +16,7 @@ pub struct Partition {
 
 impl Partition {
     // No bytes, at 0.
-    fn empty() -> Partition
+    pub(crate) fn empty() -> Partition
         ensures { result ≡ empty_partition }
     {
         let layout = Layout {
@@ -45,13 +45,14 @@ impl Partition {
 }
 
 // Document 01's station: its partition, and what runs in it.
-#[derive(Clone, Copy)]
+#[derive(Clone, Copy, Debug, PartialEq, Eq)]
 pub struct Slot {
     pub partition: Partition,
     pub state: State,
 }
 
 impl Slot {
+    #[tactic(auto, unfolding(crate::specs::Table::empty_slot))]
     pub fn empty() -> Slot
         ensures { result ≡ empty_slot }
     {
@@ -59,6 +60,13 @@ impl Slot {
             partition: Partition::empty(),
             state: State::empty(Cpu::fresh(Address(0))),
         }
+    }
+
+    // Whether it holds no pattern.
+    pub fn is_empty(self) -> bool
+        ensures { result ≡ is_empty self }
+    {
+        self.state.status == Status::Empty.number()
     }
 }
 
@@ -69,14 +77,13 @@ pub struct Table {
     pub size: u32,
     pub free: u32,
     pub widest: u32,
-    pub slots: [Slot; 8],
+    pub slots: [Slot; Table::SLOTS],
 }
 
-// The refusal, 0 for none, and the table: the given one where a call is refused. A refused `Table::new`, which is given none, has an
-// all-zero one.
+// A refused call: why, and the table that it was given. A refused `Table::new`, which is given none, has an all-zero one.
 #[derive(Clone, Copy)]
-pub struct Answer {
-    pub refusal: u8,
+pub struct RefusedCall {
+    pub refusal: Refusal,
     pub table: Table,
 }
 
@@ -89,26 +96,38 @@ impl Table {
     fn empty(size: u32) -> Table
         ensures { result ≡ empty_table size }
     {
-        let empty = Slot::empty();
-        let slots = [empty; 8];
         Table {
             size,
             free: size,
             widest: size,
-            slots,
+            slots: [Slot::empty(); Table::SLOTS],
         }
     }
 
     // Document 01's fresh record, for a memory of that length, which it does not touch.
-    pub fn new(length: usize) -> Answer
-        ensures refusal_value { result.refusal ≡ new_refusal length }
-        ensures table_value { result.table ≡ new_table length }
+    #[tactic(auto, unfolding(common::specs::ConditionDefinitions::condition_definitions, crate::specs::Table::new_refusal, crate::specs::Table::new_table))]
+    pub fn new(length: usize) -> Result<Table, RefusedCall>
+        ensures refusal_value { (answer_in result).refusal ≡ new_refusal length }
+        ensures table_value { (answer_in result).table ≡ new_table length }
     {
         if !is_one_to(length, Table::MAX_MEMORY) {
-            let table = Table::empty(0);
-            return Answer { refusal: 2, table };
+            return Err(RefusedCall {
+                refusal: Refusal::OtherLength,
+                table: Table::empty(0),
+            });
         }
-        let table = Table::empty(length as u32);
-        Answer { refusal: 0, table }
+        Ok(Table::empty(length as u32))
+    }
+
+    // The table with another slot there, and the same table past its slots.
+    #[tactic(auto, unfolding(crate::specs::Table::with_slot))]
+    pub fn with_slot(self, slot: usize, s: Slot) -> Table
+        ensures { result ≡ with_slot self slot s }
+    {
+        let mut next = self;
+        if slot < Table::SLOTS {
+            next.slots[slot] = s;
+        }
+        next
     }
 }

@@ -1,6 +1,6 @@
--- `scripts::run_all`: safe and ends: each iteration passes an entry.
-use Rattle.std.proofs.Common.{◌-◌}
+-- `scripts::run_all`: each iteration passes an entry.
+use Rattle.std.proofs.Common.{length}
 use Rattle.scripts.proofs.run_all.Given as goal
 
-abbrev pub decreases-loop-at : goal.decreases-loop-at
-decreases-loop-at g l = 655360 - l.at
+abbrev pub decreases-loop-left : goal.decreases-loop-left
+decreases-loop-left g l = length l.left

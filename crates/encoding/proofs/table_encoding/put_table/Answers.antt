@@ -1,12 +1,13 @@
 -- `encoding::table_encoding::put_table`: the head, and then each iteration puts one slot behind the last.
-use Prim.Native.Nat.{◌*◌, ◌≤◌}
+use Prim.Native.Nat.{◌+◌, ◌*◌, ◌≤◌}
 use lib.ListN.{length}
 use mathlib.Core.List.{map}
-use mathlib.Core.Path.{◌≡◌, refl, ◌∙◌}
+use mathlib.Core.Path.{◌≡◌, refl, sym, ap, ◌∙◌}
+use borrow.Author.Rules.{rules}
 use native.Mathlib.Omega.{arith}
 use Rattle.slices.specs.SliceLaws.{copied_next, copied_all}
 use Rattle.slices.specs.PieceLaws.{pieces_none, pieces_more, pieces_all, pieces_size}
-use Rattle.slices.specs.Slices.{concat}
+use Rattle.slices.specs.Slices.{concat, copied}
 use Rattle.table.specs.Table.{no_slot}
 use Rattle.encoding.specs.TableEncoding.{slot_length, slots_offset, table_length, slot_bytes, head_bytes, table_bytes}
 use Rattle.encoding.proofs.table_encoding.put_table.Goals as goal
@@ -21,7 +22,9 @@ pub loop-k-preserved : goal.loop-k-preserved
 loop-k-preserved c = let t = c.args.table in
     let eight : length t.slots ≡ 8 = c.well_formed.1.0.1.1.1.1.1.0.1.0.1 in
     let whole : length c.put_head.new.bytes ≡ table_length = c.put_head.auto.bytes ∙ c.requires in
-    pieces_more slot_bytes slot_length t.slots c.put_head.new.bytes slots_offset c.loop-k.k c.loop-k.bytes c.loop-k.invariant no_slot _ (omega arith) c.put_slot.ensures.slot_len (omega arith) c.put_slot.ensures.bytes_after
+    let long : length c.encode_slot.result ≡ slot_length = search rules in
+    pieces_more slot_bytes slot_length t.slots c.put_head.new.bytes slots_offset c.loop-k.k c.loop-k.bytes c.loop-k.invariant no_slot _ (omega arith) (sym (ap length c.encode_slot.ensures) ∙ long) (omega arith)
+    (c.copy.ensures ∙ ap (copied c.loop-k.bytes (slots_offset + slot_length * c.loop-k.k)) c.encode_slot.ensures)
 
 pub shape_of-bytes : goal.shape_of-bytes
 shape_of-bytes c = c.loop-k.invariant.kept ∙ c.put_head.auto.bytes

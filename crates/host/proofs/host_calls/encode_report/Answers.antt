@@ -13,4 +13,5 @@ pub returns : goal.returns
 unfolding report_bytes
 returns c = let l = c.args.r.registers in
     let h : length l ≡ 7 = search rules in
-    sym (ap (λ (x : List ℕ). concat ((c.args.r.status ∷ []) ∷ u16_bytes c.args.r.counter ∷ x ∷ (c.args.r.psu ∷ c.args.r.psl ∷ []) ∷ [])) (list_tabulated 7 l h))
+    let counter : c.to_be_bytes.result ≡ u16_bytes c.args.r.counter = search rules in
+    rw counter (sym (ap (λ (x : List ℕ). concat ((c.args.r.status ∷ []) ∷ u16_bytes c.args.r.counter ∷ x ∷ (c.args.r.psu ∷ c.args.r.psl ∷ []) ∷ [])) (list_tabulated 7 l h)))

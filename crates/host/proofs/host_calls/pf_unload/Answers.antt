@@ -1,10 +1,7 @@
 use mathlib.Core.Path.{refl}
 use Rattle.supervisor.specs.Calls.{change, unload}
-use Rattle.host.proofs.HostCallLaws.{other_length, call_stored}
+use Rattle.host.proofs.HostCallLaws.{call_stored}
 use Rattle.host.proofs.host_calls.pf_unload.Goals as goal
 
-pub returns-then-table-ne-TABLE_LENGTH : goal.returns-then-table-ne-TABLE_LENGTH
-returns-then-table-ne-TABLE_LENGTH c = other_length 0 (change c.args.slot unload) c.args.table.now c.args.memory.now _ c.if-table-ne-TABLE_LENGTH.true c.answer.ensures
-
 pub returns : goal.returns
-returns c = call_stored (change c.args.slot unload) c.args.table.now c.args.memory.now c.decode_table-before.result c.unload-done.result.refusal c.unload-done.result.table _ c.if-table-ne-TABLE_LENGTH.false c.decode_table-before.ensures c.unload-done.ensures 0 _ _ refl c.answer-2.ensures c.store_accepted.ensures
+returns c = call_stored (change c.args.slot unload) c.args.table.now c.args.memory.now c.decode_table-before.result _ _ _ c.if-table-ne-TABLE_LENGTH.false c.decode_table-before.ensures c.unload-done.ensures 0 _ _ refl c.store_accepted.ensures.value c.store_accepted.ensures.bytes_after

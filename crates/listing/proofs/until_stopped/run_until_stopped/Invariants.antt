@@ -1,11 +1,8 @@
+use Prim.Native.Nat.{◌-◌}
 use mathlib.Core.Path.{◌≡◌}
-use lib.ListN.{length}
 use Rattle.system.specs.System.{system}
 use Rattle.listing.specs.UntilStopped.{until_stopped}
 use Rattle.listing.proofs.until_stopped.run_until_stopped.Given as goal
 
-abbrev pub invariant-loop-left : goal.invariant-loop-left
-invariant-loop-left l = (length l.memory ≡ length l.initial.memory) × (until_stopped l.left (system l.next l.memory) ≡ until_stopped l.initial.left (system l.initial.next l.initial.memory))
-
-abbrev pub decreases-loop-left : goal.decreases-loop-left
-decreases-loop-left l = l.left
+abbrev pub invariant-loop-round : goal.invariant-loop-round
+invariant-loop-round l = until_stopped (1000 - l._round) (system l.next l.memory) ≡ until_stopped 1000 (system l.initial.next l.initial.memory)

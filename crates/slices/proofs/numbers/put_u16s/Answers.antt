@@ -1,19 +1,9 @@
 -- `slices::numbers::put_u16s`: each iteration puts one number behind the last (PieceLaws.antt).
-use mathlib.Core.Path.{refl, sym}
+use mathlib.Core.Path.{refl}
 use native.Mathlib.Omega.{arith}
-use Rattle.slices.specs.SliceLaws.{copied_left}
-use Rattle.slices.specs.Numbers.{u16_bytes, u16s_bytes}
-use Rattle.slices.specs.NumberLaws.{u16s_length}
+use Rattle.slices.specs.Numbers.{u16_bytes}
 use Rattle.slices.specs.PieceLaws.{pieces_none, pieces_more, pieces_all}
 use Rattle.slices.proofs.numbers.put_u16s.Goals as goal
-
-pub returns-then-target-at : goal.returns-then-target-at
-returns-then-target-at c = let a = c.args in
-    sym (copied_left a.target.now a.at (u16s_bytes a.numbers.now) (omega (arith, u16s_length c.args.numbers.now)))
-
-pub returns-then-target-at-2 : goal.returns-then-target-at-2
-returns-then-target-at-2 c = let a = c.args in
-    sym (copied_left a.target.now a.at (u16s_bytes a.numbers.now) (omega (arith, u16s_length c.args.numbers.now)))
 
 pub loop-i-init : goal.loop-i-init
 loop-i-init c = let a = c.args in
@@ -22,9 +12,6 @@ loop-i-init c = let a = c.args in
 pub loop-i-preserved : goal.loop-i-preserved
 loop-i-preserved c = let a = c.args in
     pieces_more u16_bytes 2 a.numbers.now a.target.now a.at c.loop-i.i _ c.loop-i.invariant 0 _ c.loop-i-test.true refl (omega arith) c.put_u16.ensures
-
-pub shape_of-target : goal.shape_of-target
-shape_of-target c = c.loop-i.invariant.kept
 
 pub returns : goal.returns
 returns c = let a = c.args in

@@ -1,19 +1,27 @@
+-- `system::running::run`: what the check refuses, and a run of what it passes.
+use Rattle.std.proofs.Common.{rules}
+use Rattle.common.specs.Refusals.{refusal_by}
 use Rattle.system.specs.Conditions.{system_conditions}
-use Rattle.system.specs.OutcomeLaws.{refused_by, accepted_by}
+use Rattle.system.specs.OutcomeLaws.{refused_answer, accepted_by}
 use Rattle.system.specs.Running.{after_run, run_outcome_of}
 use Rattle.system.specs.System.{System, system}
 use Rattle.system.proofs.RunningLaws.{run_refusal_sound}
-use Rattle.common.specs.Refusals.{refusal_by}
+use Rattle.table.specs.CheckLaws.{passed_with}
 use Rattle.system.proofs.running.run.Goals as goal
 
-pub returns-then-refusal-ne0 : goal.returns-then-refusal-ne0
+pub returns-in_err-map_err : goal.returns-in_err-map_err
 unfolding run_outcome_of
-returns-then-refusal-ne0 c = let x : System = system c.args.table c.args.memory.now in refused_by (refusal_by (system_conditions x)) (after_run c.args.rounds x) x c.system_refusal-refusal.ensures c.if-refusal-ne0.true
+returns-in_err-map_err c = let x : System = system c.args.table c.args.memory.now in
+    refused_answer (refusal_by (system_conditions x)) (after_run c.args.rounds x) x c.check_system.result _ _ _ c.check_system.ensures
+    c.map_err.ensures.cases c.in_err-map_err.was c.from_residual.ensures.1 (λ q y p. search rules)
 
-pub run_rounds-next-requires : goal.run_rounds-next-requires
-run_rounds-next-requires c = let h = run_refusal_sound _ c.system_refusal-refusal.ensures c.if-refusal-ne0.false in
+pub run_rounds-requires : goal.run_rounds-requires
+run_rounds-requires c = let passed = passed_with c.check_system.result _ _ c.map_err.ensures.variant c.in_ok-map_err.was in
+    let h = run_refusal_sound _ c.check_system.ensures passed in
     record { table_value = h.0; memory_len = h.1 }
 
 pub returns : goal.returns
 unfolding run_outcome_of
-returns c = let x : System = system c.args.table c.args.memory.now in accepted_by (refusal_by (system_conditions x)) (after_run c.args.rounds x) x _ _ c.system_refusal-refusal.ensures c.if-refusal-ne0.false c.run_rounds-next.ensures
+returns c = let x : System = system c.args.table c.args.memory.now in
+    let passed = passed_with c.check_system.result _ _ c.map_err.ensures.variant c.in_ok-map_err.was in
+    accepted_by (refusal_by (system_conditions x)) (after_run c.args.rounds x) x _ _ c.check_system.ensures passed c.run_rounds.ensures

@@ -1,21 +1,14 @@
--- `table::sound::all_fifteen_bits`: a loop over `all_below` (AllBelowLaws.antt).
-use mathlib.Core.Path.{refl}
-use native.Mathlib.Omega.{arith}
-use lib.ListN.{length}
+-- `table::sound::all_fifteen_bits`: of each element, so of each place (AllBelowLaws.antt).
+use lib.Dec.{ltb}
+use Rattle.std.proofs.Common.{ℕ, length, refl, ◌∙◌, rules, tests}
+use Rattle.std.proofs.lemmas.Iterator.{YieldsList-from_slice}
+use Rattle.std.proofs.lemmas.Iterator.Search.{all_from_yields_List}
+use Rattle.common.specs.AllBelowLaws.{each_listed}
 use Rattle.table.specs.Sound.{all_fifteen_bits}
-use Rattle.common.specs.AllBelowLaws.{all_none, all_more, all_done}
-use Rattle.table.proofs.sound.all_fifteen_bits.Invariants.{test}
 use Rattle.table.proofs.sound.all_fifteen_bits.Goals as goal
-
-pub loop-i-init : goal.loop-i-init
-loop-i-init c = (omega arith, all_none (test c.args.l.now))
-
-pub loop-i-preserved : goal.loop-i-preserved
-loop-i-preserved c = let here = c.loop-i in
-    (omega arith, all_more (test c.args.l.now) here.i here.invariant.1 refl)
 
 pub returns : goal.returns
 unfolding all_fifteen_bits
 returns c = let l = c.args.l.now in
-    let here = c.loop-i in
-    all_done (test l) (length l) here.i here.invariant.1 here.invariant.0 c.loop-i-test.false
+    all_from_yields_List (λ (a : ℕ). ltb a 32768) _ _ c.all.result c.all.ensures.ran (YieldsList-from_slice l cc) (λ s b q k. search (rules, tests))
+    ∙ each_listed (λ (a : ℕ). ltb a 32768) 0 l (length l) refl

@@ -1,20 +1,16 @@
--- `table::sound::each_slot_sound`: a loop over `all_below` (AllBelowLaws.antt).
-use native.Mathlib.Omega.{arith}
-use Rattle.table.specs.Table.{slot_at}
-use Rattle.common.specs.AllBelowLaws.{all_none, all_more, all_done}
-use Rattle.table.proofs.sound.each_slot_sound.Invariants.{test}
+-- `table::sound::each_slot_sound`: of every slot, so of each of the eight (AllBelowLaws.antt).
+use Rattle.std.proofs.Common.{◌≡◌, length, ◌∙◌, rules, tests}
+use Rattle.std.proofs.lemmas.Iterator.{YieldsList-from_slice}
+use Rattle.std.proofs.lemmas.Iterator.Search.{all_from_yields_List}
+use Rattle.common.specs.AllBelowLaws.{each_listed}
+use Rattle.table.specs.Sound.{slot_sound}
+use Rattle.table.specs.Table.{no_slot, slot_at}
+use Rattle.table.specs.declared.table.Slot.{Slot}
 use Rattle.table.proofs.sound.each_slot_sound.Goals as goal
 
-pub loop-k-init : goal.loop-k-init
-loop-k-init c = (omega arith, all_none (test c.args.table))
-
-pub loop-k-preserved : goal.loop-k-preserved
-unfolding slot_at
-loop-k-preserved c = let at = c.args in
-    let here = c.loop-k in
-    (omega arith, all_more (test at.table) here.k here.invariant.1 c.slot_sound-ok.ensures)
-
 pub returns : goal.returns
-returns c = let at = c.args in
-    let here = c.loop-k in
-    all_done (test at.table) 8 here.k here.invariant.1 here.invariant.0 c.loop-k-test.false
+unfolding slot_at
+returns c = let slots = c.args.table.slots in
+    let eight : length slots ≡ 8 = search (rules, c.well_formed) in
+    all_from_yields_List (λ (s : Slot). slot_sound c.args.table.size s) _ _ c.all.result c.all.ensures.ran (YieldsList-from_slice slots cc) (λ s b q k. search (rules, tests))
+    ∙ each_listed (λ (s : Slot). slot_sound c.args.table.size s) no_slot slots 8 eight

@@ -1,9 +1,0 @@
-use Rattle.registers.proofs.alu_results.rotate_right.Goals as goal
-
-pub returns : goal.returns
-returns c = rw (
-  ← c.register-v.ensures,
-  ← c.psl.ensures,
-  ← c.rotate_right-o.ensures.value,
-  ← c.with_alu_result.ensures,
-)

@@ -1,7 +1,0 @@
--- `slices::slices::byte`: past the end the list answers its default, 0.
-use mathlib.Core.Path.{sym}
-use lib.ListN.{get_or-eq_default}
-use Rattle.slices.proofs.slices.byte.Goals as goal
-
-pub returns : goal.returns
-returns c = sym (get_or-eq_default c.args.s.now 0 c.if-at-s.false)

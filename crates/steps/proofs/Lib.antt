@@ -1,2 +1,0 @@
--- Laws that only proofs need.
-pub mod DisplacementLaws

@@ -1,9 +1,0 @@
-use Rattle.steps.specs.Result.{operated_of}
-use Rattle.steps.proofs.result.operated.Goals as goal
-
-pub returns : goal.returns
-unfolding operated_of
-returns c = rw (
-  ← c.operate-n.ensures,
-  ← c.running.ensures,
-)
