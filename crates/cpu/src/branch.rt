@@ -137,6 +137,7 @@ pub(crate) fn branch(
     branch_if_taken(kind, m, register_counted(kind, m, r), window, r, target)
 }
 
+// It and the next one end alike. A function of the target alone, as `target_of` is for the others, would need a definition of its own.
 pub(crate) fn zero_branch(call: bool, m: PackedCpu, window: &[u8]) -> PackedStep
     ensures { step_result_of result ≡ zero_branch_of call (cpu_of m) 2 window.now }
 {

@@ -33,9 +33,9 @@ pub fn run(state: State, partition: &mut [u8], layout: Layout, steps: u64) -> St
     State {
         cpu: Cpu::from(cpu),
         status,
-        filled: state.filled,
         read: positions.read as u16,
         written: positions.written as u16,
+        ..state
     }
 }
 

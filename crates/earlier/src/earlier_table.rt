@@ -9,6 +9,7 @@ ghost use Rattle.table.specs.TableConditions.{table_conditions};
 
 use common::Refusal;
 use encoding::{SLOT_LENGTH, SLOTS_OFFSET, TABLE_LENGTH, decode_slot, decode_table};
+use registers::Status;
 use slices::{copy, front, part, put_u16, rest, u32_at};
 use table::{RefusedCall, Slot, Table, check_table};
 
@@ -17,7 +18,7 @@ const UNLOCKED_SLOT_LENGTH: usize = 45;
 
 const UNLOCKED_TABLE_LENGTH: usize = 372;
 
-const LAST_UNLOCKED_STATUS: u8 = 7;
+const LAST_UNLOCKED_STATUS: u8 = Status::Port as u8;
 
 const LOCK_OFFSET: usize = 10;
 
@@ -45,6 +46,7 @@ fn decode_unlocked_slots(bytes: &[u8], at: usize) -> [Slot; 8]
     requires { at + 8 * unlocked_slot_length ≤ length bytes.now }
     ensures { result ≡ unlocked_slots_from_bytes at bytes.now }
 {
+    // A loop, and no `array::from_fn`, as in `decode_slots` of crate encoding: the check does not find that proof for slots.
     let mut slots = [Slot::empty(); Table::SLOTS];
     for (k, slot) in slots.iter_mut().enumerate() {
         *slot = decode_unlocked_slot(bytes, at + UNLOCKED_SLOT_LENGTH * k);

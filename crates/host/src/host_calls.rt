@@ -1,4 +1,5 @@
-// Calls on a table that a host lends as its bytes: each decodes the table, makes the call by value, and encodes only what was accepted.
+// Calls on a table that a host lends as its bytes: each decodes the table, makes the call by value, and encodes only what was accepted. Each
+// tests the length and decodes by itself: a function that took the call as a closure would need longer clauses, over both lent slices.
 ghost use Rattle.std.specs.Prelude.{◌≡◌, min, length};
 ghost use Rattle.supervisor.specs.Calls as calls;
 ghost use Rattle.supervisor.specs.Calls.{drained_count};
@@ -58,11 +59,7 @@ pub extern "C" fn pf_new(table: &mut [u8], length: usize) -> u32
 fn clamp_location(location: usize) -> Location
     ensures { result.0 ≡ min location 65536 }
 {
-    if location < Table::MAX_MEMORY {
-        Location(location as u32)
-    } else {
-        Location(Table::MAX_MEMORY as u32)
-    }
+    Location(location.min(Table::MAX_MEMORY) as u32)
 }
 
 // Loads a pattern file into an empty slot.

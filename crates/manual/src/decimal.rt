@@ -34,13 +34,13 @@ pub(crate) fn difference_agrees(pair: u64) -> bool {
 }
 
 // The table of what DAR adds: a digit gets ten if its carry, C for the high one and IDC for the low one, is 0.
-fn digit(value: u64, carry: u64) -> u64
+fn digit(value: u64, carry: bool) -> u64
     ensures { result < 16 }
 {
-    if carry == 0 {
-        (value % 16 + 10) % 16
-    } else {
+    if carry {
         value % 16
+    } else {
+        (value % 16 + 10) % 16
     }
 }
 
@@ -53,5 +53,5 @@ pub(crate) fn adjust_agrees(case: u64) -> bool {
         .with_r0(value as u8)
         .with_psl((idc * 32 + c) as u8)
         .step(&mut [0x94]);
-    adjusted.r0() as u64 == digit(value / 16, c) * 16 + digit(value % 16, idc)
+    adjusted.r0() as u64 == digit(value / 16, c == 1) * 16 + digit(value % 16, idc == 1)
 }

@@ -18,7 +18,7 @@ fn fits_better(size: usize, e: Extent, best: Extent) -> bool
     (size <= length) & (!(size <= other) | (length < other))
 }
 
-// The best of the extents: of equal ones the first.
+// The best of the extents: of equal ones the first, and the empty one if there is none, as the definition has it.
 fn best_of(size: usize, extents: &[Extent]) -> Extent
     ensures { result ≡ best_of size empty_extent extents.now }
 {

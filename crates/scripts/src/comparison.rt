@@ -2,7 +2,7 @@
 use crate::entry::Entry;
 use crate::kind::Kind;
 use common::Refusal;
-use std::io;
+use std::{fmt, io};
 
 // Whether an entry's answer is the wanted one, and why its call was refused, if it was.
 #[derive(Clone, Copy)]
@@ -76,17 +76,14 @@ impl Tally {
             self.different = self.different.wrapping_add(1);
         }
     }
+}
 
-    pub(crate) fn print(self, rt: &impl Print) -> io::Result<()> {
-        let Tally {
-            scripts,
-            accepted,
-            refused,
-            states,
-            different,
-        } = self;
-        println!(rt;
-            "{scripts} scripts: {accepted} calls accepted, {refused} refused, {states} states compared, {different} different"
+impl fmt::Display for Tally {
+    fn fmt<W: fmt::Write>(&self, f: &mut fmt::Formatter<W>) -> fmt::Result {
+        write!(
+            f,
+            "{} scripts: {} calls accepted, {} refused, {} states compared, {} different",
+            self.scripts, self.accepted, self.refused, self.states, self.different
         )
     }
 }

@@ -6,7 +6,8 @@ use common::{Address, Layout, Refusal};
 use pattern::Parameters;
 use slices::{byte, copy, fill, front, part, rest, u16_at, u32_at};
 
-// The parameters that a write is given, or that a read must answer.
+// The parameters that a write is given, or that a read must answer: read by the data's layout, and not by the product's own decoder, which is
+// on trial here.
 fn parameters(entry: Entry) -> Parameters {
     let given = entry.bytes();
     Parameters {

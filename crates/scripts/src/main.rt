@@ -44,5 +44,6 @@ fn run_file(rt: &impl Print, file: impl Read + Drop, buffer: &mut [u8]) -> io::R
 fn main(rt: HostRuntime) -> io::Result<()> {
     let file = File::open(&rt, "scripts.bin")?;
     let mut buffer = [0u8; 655360];
-    run_file(&rt, file, &mut buffer)?.print(&rt)
+    let tally = run_file(&rt, file, &mut buffer)?;
+    println!(rt; "{tally}")
 }

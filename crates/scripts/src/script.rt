@@ -40,10 +40,7 @@ fn compare_filled<F: FnOnce(&mut [u8]) -> Result<usize, Refusal>>(
 impl Script {
     // The table is all zero, and no memory is lent.
     pub(crate) fn new() -> Script {
-        let table = match Table::new(0) {
-            Ok(table) => table,
-            Err(refused) => refused.table,
-        };
+        let table = Table::new(0).unwrap_or_else(|refused| refused.table);
         Script {
             table,
             saved: table,

@@ -10,7 +10,7 @@ pub fn u16_at(s: &[u8], at: usize) -> u16
     ensures { result ≡ u16_at s.now at }
 {
     if at < s.len() {
-        return (byte(s, at) as u16) * 256 + (byte(s, at + 1) as u16);
+        return u16::from_be_bytes([byte(s, at), byte(s, at + 1)]);
     }
     0
 }
@@ -20,7 +20,12 @@ pub fn u32_at(s: &[u8], at: usize) -> u32
     ensures { result ≡ u32_at s.now at }
 {
     if at < s.len() {
-        return (u16_at(s, at) as u32) * 65536 + (u16_at(s, at + 2) as u32);
+        return u32::from_be_bytes([
+            byte(s, at),
+            byte(s, at + 1),
+            byte(s, at + 2),
+            byte(s, at + 3),
+        ]);
     }
     0
 }

@@ -64,6 +64,6 @@ pub fn drain(
     let location = output_location(partition);
     slices::copy(buffer, 0, slices::part(memory, location.0 as usize, count));
     let state = drained_state(s.state);
-    let table = table.with_slot(slot, Slot { partition, state });
+    let table = table.with_slot(slot, Slot { state, ..s });
     Ok(Drained { count, table })
 }

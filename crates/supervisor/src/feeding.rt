@@ -55,5 +55,5 @@ pub fn feed(
     let partition = s.partition;
     slices::copy(memory, input_location(partition).0 as usize, bytes);
     let state = fed_state(bytes.len() as u16, s.state);
-    Ok(table.with_slot(slot, Slot { partition, state }))
+    Ok(table.with_slot(slot, Slot { state, ..s }))
 }

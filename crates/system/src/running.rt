@@ -27,7 +27,11 @@ fn run_quantum(slot: Slot, memory: &mut [u8]) -> State
     )
 }
 
-// Rounds over all slots, the table changed in place. A slot that is empty or stopped costs a test.
+// Rounds over all slots, the table changed in place. A slot that is empty or stopped costs a test. The inner loop goes by numbers: with
+// `for slot in &mut next.slots` there is no whole table between two slots that its invariant could speak of, and the proof did not close.
+// Not inlined, no more than `run`: a table that LLVM can follow from the check into the rounds is split into its fields, each copied at each
+// slot, and short runs took eight times as long.
+#[inline(never)]
 fn run_rounds(table: Table, memory: &mut [u8], rounds: u16) -> Table
     requires table_value { table_sound table ≡ true }
     requires memory_len { length memory.old ≡ table.size }
@@ -47,6 +51,7 @@ fn run_rounds(table: Table, memory: &mut [u8], rounds: u16) -> Table
 }
 
 // Document 01's pass, so many times.
+#[inline(never)]
 pub fn run(table: Table, memory: &mut [u8], rounds: u16) -> Result<Table, RefusedCall>
     ensures { answer_outcome result memory.new ≡ run_outcome_of rounds (system table memory.old) }
 {

@@ -78,8 +78,9 @@ pub(crate) fn is_counted(table: Table) -> bool
 pub fn count_free(table: Table) -> Table
     ensures { result ≡ counted_by_partitions table }
 {
-    let mut next = table;
-    next.free = bytes_left(table) as u32;
-    next.widest = widest_gap(table) as u32;
-    next
+    Table {
+        free: bytes_left(table) as u32,
+        widest: widest_gap(table) as u32,
+        ..table
+    }
 }

@@ -1,5 +1,6 @@
-// Whether a table is sound, in the shape of its definition. A partition or a state is tested without a branch. An empty slot is not tested
-// as a loaded one too: every call tests all eight.
+// Whether a table is sound, in the shape of its definition. The numbers of a partition and of a state are tested without a branch. An empty
+// slot is not tested as a loaded one too: every call tests all eight. The two loops carry a Bool, since the check does not find the proof of
+// `.enumerate().all(..)`.
 ghost use Rattle.std.specs.Prelude.{◌≡◌};
 ghost use Rattle.common.specs.Tests.{all_below};
 ghost use Rattle.table.specs.Table.{slot_at};
