@@ -14,7 +14,7 @@ check: lint tools
 tools:
 	python3 -B -m unittest discover -s tools/tests
 
-speed versions differential machines inlined branchless:
+speed versions differential machines inlined needs branchless:
 	$(MAKE) -C bench $@
 
-.PHONY: lint check tools speed versions differential machines inlined branchless
+.PHONY: lint check tools speed versions differential machines inlined needs branchless

@@ -88,13 +88,13 @@ fn statuses_up_to(last: u8, table: Table) -> bool
     table.slots.iter().all(|s| s.state.status <= last)
 }
 
-// The table as it is, if it is sound by the rules of a table.
+// The table as it is, if it is sound by the rules of a table. Not inlined: the compiler would split the table into its fields.
+#[inline(never)]
 fn judged(table: Table) -> Result<Table, RefusedCall>
     ensures { answer_in result ≡ answer (refusal_by (table_conditions table)) table }
 {
-    check_table(table)
-        .map(|()| table)
-        .map_err(|refusal| RefusedCall { refusal, table })
+    check_table(table).map_err(|refusal| RefusedCall { refusal, table })?;
+    Ok(table)
 }
 
 // The table that `old` holds, in today's form. It is refused if it is not sound by the rules of its version.

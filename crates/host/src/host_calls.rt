@@ -121,12 +121,10 @@ pub extern "C" fn pf_drain(table: &mut [u8], memory: &[u8], slot: usize, buffer:
         return answer(Err(Refusal::NotSound));
     }
     let before = decode_table(table);
-    let drained = match supervisor::drain(before, memory, slot, buffer) {
-        Ok(drained) => drained,
-        Err(refused) => return answer(Err(refused.refusal)),
-    };
-    store_table(table, drained.table);
-    answer(Ok(drained.count as u16))
+    match supervisor::drain(before, memory, slot, buffer) {
+        Ok(drained) => store_accepted(table, Ok(drained.table)) + drained.count as u32,
+        Err(refused) => store_accepted(table, Err(refused)),
+    }
 }
 
 // Makes so many rounds.

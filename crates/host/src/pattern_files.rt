@@ -1,7 +1,6 @@
 // Calls on pattern files that a host lends.
 ghost use Rattle.std.specs.Prelude.{◌≡◌, ◌<◌};
-ghost use Rattle.pattern.specs.Reader.{Accepted, if_accepted, read_of};
-ghost use Rattle.pattern.specs.declared.parameters.Parameters.{Parameters};
+ghost use Rattle.pattern.specs.Reader.{read_of};
 ghost use Rattle.host.specs.HostCalls.{buffer_outcome};
 ghost use Rattle.host.specs.PatternFiles.{code_stretch, host_read, host_write, input_stretch, stretch_of};
 
@@ -25,27 +24,23 @@ pub extern "C" fn pf_read(file: &[u8], parameters: &mut [u8]) -> u32
     answer(Ok(0))
 }
 
-// Where a body lies in the file, if it is accepted: the offset and the length in one number.
-fn stretch(file: &[u8], offset: usize, n: usize) -> u32
-    requires { (p : Parameters) → read_of file.now ≡ Accepted p → (offset < 65536) × (n < 65536) }
-    ensures { result ≡ if_accepted (read_of file.now) 0 (stretch_of offset n) }
+// A stretch of a file in one number: where it starts, and its length.
+fn stretch(offset: usize, n: usize) -> u32
+    requires { (offset < 65536) × (n < 65536) }
+    ensures { result ≡ stretch_of offset n }
 {
-    match pattern::read(file) {
-        Ok(_) => offset as u32 * 65536 + n as u32,
-        Err(_) => 0,
-    }
+    offset as u32 * 65536 + n as u32
 }
 
-// Where the body of `PC` lies in the file.
+// Where the body of `PC` lies in the file. A refused file is read once: its bodies are not asked for.
 #[unsafe(no_mangle)]
 pub extern "C" fn pf_code(file: &[u8]) -> u32
     ensures { result ≡ code_stretch file.now }
 {
-    stretch(
-        file,
-        pattern::code_offset(file),
-        pattern::code_body(file).len(),
-    )
+    match pattern::read(file) {
+        Ok(_) => stretch(pattern::code_offset(file), pattern::code_body(file).len()),
+        Err(_) => 0,
+    }
 }
 
 // Where the body of `PI` lies in the file.
@@ -53,11 +48,10 @@ pub extern "C" fn pf_code(file: &[u8]) -> u32
 pub extern "C" fn pf_input(file: &[u8]) -> u32
     ensures { result ≡ input_stretch file.now }
 {
-    stretch(
-        file,
-        pattern::input_offset(file),
-        pattern::input_body(file).len(),
-    )
+    match pattern::read(file) {
+        Ok(_) => stretch(pattern::input_offset(file), pattern::input_body(file).len()),
+        Err(_) => 0,
+    }
 }
 
 // Writes a file to the buffer's front. The count is its length.

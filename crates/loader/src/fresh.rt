@@ -27,7 +27,7 @@ fn put_padded(part: &mut [u8], bytes: &[u8])
     ensures { part.new ≡ padded (length part.old) bytes.now }
 {
     let (front, rest) = part.split_at_mut(bytes.len());
-    front.copy_from_slice(bytes);
+    slices::copy(front, 0, bytes);
     rest.fill(0);
 }
 

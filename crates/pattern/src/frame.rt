@@ -56,7 +56,8 @@ pub(crate) fn record_length(s: &[u8]) -> usize
     body_length(s) as usize + FRAME_LENGTH
 }
 
-// What follows the record at the front of `s`.
+// What follows the record at the front of `s`. Always inlined: the reader has the record's length at hand.
+#[inline(always)]
 #[tactic(auto, unfolding(crate::specs::Frame::behind_record))]
 pub(crate) fn behind_record(s: &[u8]) -> &[u8]
     ensures { result.now ≡ behind_record s.now }
@@ -65,18 +66,20 @@ pub(crate) fn behind_record(s: &[u8]) -> &[u8]
 }
 
 // Whether the record at the front of `s` has that mark, and its body is inside `s`.
+#[inline(always)]
 #[tactic(auto, unfolding(crate::specs::Frame::has_frame, common::specs::Tests::and_all))]
 pub(crate) fn has_frame(s: &[u8], mark: Mark) -> bool
     ensures { result ≡ has_frame (mark_number mark) s.now }
 {
-    (byte(s, 0) == b'P') & (byte(s, 1) == mark.byte()) & (record_length(s) <= s.len())
+    byte(s, 0) == b'P' && byte(s, 1) == mark.byte() && record_length(s) <= s.len()
 }
 
 // The same, with a body of `n` bytes.
+#[inline(always)]
 pub(crate) fn has_frame_of_length(s: &[u8], mark: Mark, n: usize) -> bool
     ensures { result ≡ has_frame_of_length (mark_number mark) n s.now }
 {
-    has_frame(s, mark) & (body_length(s) as usize == n)
+    has_frame(s, mark) && body_length(s) as usize == n
 }
 
 // Writes records into a buffer, one behind the other: the next one starts at `at`.

@@ -14,7 +14,7 @@ use crate::parameters::{
     Form, Parameters, decode_parameters, form_of, is_in_range, parameters_length,
 };
 use common::Refusal;
-use slices::byte;
+use slices::{byte, front};
 
 // The form that `PV` at the front of `s` names, and the board.
 fn form_in(s: &[u8]) -> u8
@@ -97,6 +97,7 @@ fn read_input(s: &[u8], parameters: Parameters) -> Result<(), Refusal>
 }
 
 // The record `PE` at the front of `s`, where the file ends.
+#[inline(always)]
 #[tactic(auto, unfolding(crate::specs::Reader::end_conditions, common::specs::ConditionDefinitions::condition_definitions))]
 fn read_end(s: &[u8]) -> Result<(), Refusal>
     ensures { refusal_in result ≡ refusal_by (end_conditions s.now) }
@@ -146,7 +147,7 @@ fn accepted_body<'a>(file: &[u8], from: &'a [u8]) -> &'a [u8]
     ensures { result.now ≡ if_accepted (read_of file.now) [] (body_of from.now) }
 {
     let Ok(_) = read(file) else {
-        return &[];
+        return front(from, 0);
     };
     body(from)
 }

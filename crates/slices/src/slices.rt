@@ -13,7 +13,7 @@ pub fn byte(s: &[u8], at: usize) -> u8
 pub fn rest(s: &[u8], at: usize) -> &[u8]
     ensures { result.now ≡ drop at s.now }
 {
-    s.get(at..).unwrap_or(&[])
+    s.get(at..).unwrap_or(&s[..0])
 }
 
 // The first `n` bytes, or all of them where there are fewer.
@@ -31,7 +31,7 @@ pub fn part(s: &[u8], at: usize, n: usize) -> &[u8]
 }
 
 // Copies `source` into `target` from `at` on: whole, or not at all where it would pass the end.
-#[tactic(auto, using(crate::specs::SliceLaws::copied_left, crate::proofs::StoreLaws::part_written))]
+#[tactic(auto, using(crate::specs::SliceLaws::copied_left, crate::proofs::StoreLaws::stored_none, crate::proofs::StoreLaws::stored_all))]
 pub fn copy(target: &mut [u8], at: usize, source: &[u8])
     ensures { target.new ≡ copied target.old at source.now }
 {
@@ -41,7 +41,10 @@ pub fn copy(target: &mut [u8], at: usize, source: &[u8])
     if target.len() - at < source.len() {
         return;
     }
-    target[at..at + source.len()].copy_from_slice(source);
+    // No `copy_from_slice`, which compiles to a call of `memmove`: C would have to bring one more function to the archive.
+    for (i, byte) in source.iter().enumerate() {
+        target[at + i] = *byte;
+    }
 }
 
 // Puts `value` into the `n` bytes from `at` on: all of them, or none where they would pass the end.
